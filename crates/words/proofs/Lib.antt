@@ -1,0 +1,2 @@
+pub mod Flip
+pub mod Offsets

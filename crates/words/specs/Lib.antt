@@ -1,0 +1,5 @@
+pub mod Made
+pub mod Layout
+pub mod Access
+pub mod Reading
+pub mod Words

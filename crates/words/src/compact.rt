@@ -1,0 +1,124 @@
+// A compact word: up to sixteen pages of one block, properly placed in one frame block, with equal attributes.
+ghost use mathlib.Core.Path.{_≡_};
+ghost use mathlib.Core.Bool.{true, false, _&&_};
+ghost use Prim.Native.Nat.{ℕ, _^_};
+ghost use Rattle.std.specs.Options.{Cases as BySome};
+ghost use Rattle.words.specs.Layout.{bit, block-of, compact-word, areParts, offsets-in, frame-block-in, attributes-in, isCompact, Changed};
+ghost use Rattle.words.specs.Made.{Made};
+ghost use Rattle.words.specs.Reading.{inRange, isPlaced, said};
+ghost use Rattle.words.specs.declared.form.Form.the-variants as shape;
+use crate::address::Offset;
+use crate::translation::Translation;
+
+#[derive(Clone, Copy)]
+pub struct CompactWord {
+    bits: u64,
+    ghost sound: { isCompact bits ≡ true },
+}
+
+impl CompactWord {
+    // The word with these bits; none where they are no compact word.
+    pub fn from_bits(bits: u64) -> Option<CompactWord>
+        ensures { λ r. ⌜ Made r (isCompact bits) (λ w. w .bits ≡ bits) ⌝ }
+    {
+        if bits / 0x1000 % 0x10 == 0 && bits / 0x100_0000_0000 % 0x100 == 0 && bits >= 0x1_0000_0000_0000 {
+            Some(CompactWord { bits })
+        } else {
+            None
+        }
+    }
+
+    // The word of the offsets whose bits are set; none where no bit is, or a part is too large.
+    pub fn from_parts(offsets: u16, frame_block: u32, attributes: u16) -> Option<CompactWord>
+        ensures { λ r. ⌜ Made r (areParts offsets «frame_block» attributes) (λ w. w .bits ≡ compact-word offsets «frame_block» attributes) ⌝ }
+    {
+        if offsets == 0 || frame_block >= 0x100_0000 || attributes >= 0x1000 {
+            return None;
+        }
+        Some(CompactWord {
+            bits: u64::from(offsets) * 0x1_0000_0000_0000 + u64::from(frame_block) * 0x1_0000 + u64::from(attributes),
+        })
+    }
+
+    // The word of a single page; none where it is not properly placed, or its frame or attributes are too large.
+    pub fn of_page(offset: Offset, translation: Translation) -> Option<CompactWord>
+        ensures { λ r. ⌜ Made r (isPlaced (offset .number) translation && inRange translation) (λ w. w .bits ≡ compact-word (2 ^ offset .number) (block-of (translation .frame)) (translation .attributes)) ⌝ }
+    {
+        if !translation.properly_placed(offset) {
+            return None;
+        }
+        CompactWord::from_parts(1 << offset.number, translation.frame / 16, translation.attributes)
+    }
+
+    pub fn bits(self) -> u64
+        ensures { λ r. ⌜ r ≡ self .bits ⌝ }
+    {
+        self.bits
+    }
+
+    // One bit for each offset whose page is in the word, offset 0 in bit 0.
+    pub fn offsets(self) -> u16
+        ensures { λ r. ⌜ r ≡ offsets-in (self .bits) ⌝ }
+    {
+        (self.bits / 0x1_0000_0000_0000) as u16
+    }
+
+    pub fn frame_block(self) -> u32
+        ensures { λ r. ⌜ r ≡ frame-block-in (self .bits) ⌝ }
+    {
+        (self.bits / 0x1_0000 % 0x100_0000) as u32
+    }
+
+    pub fn attributes(self) -> u16
+        ensures { λ r. ⌜ r ≡ attributes-in (self .bits) ⌝ }
+    {
+        (self.bits % 0x1000) as u16
+    }
+
+    pub fn has(self, offset: Offset) -> bool
+        ensures { λ r. ⌜ r ≡ bit (offsets-in (self .bits)) (offset .number) ⌝ }
+    {
+        (self.bits / 0x1_0000_0000_0000 >> offset.number) % 2 == 1
+    }
+
+    // What the page at an offset is mapped to.
+    pub fn read(self, offset: Offset) -> Option<Translation>
+        ensures { λ r. ⌜ r ≡ said shape.Compact (self .bits) (offset .number) ⌝ }
+    {
+        if self.has(offset) {
+            Some(Translation {
+                frame: self.frame_block() * 16 + u32::from(offset.number),
+                attributes: self.attributes(),
+            })
+        } else {
+            None
+        }
+    }
+
+    // The word with the page at an offset in it.
+    pub fn with(self, offset: Offset) -> CompactWord
+        ensures { λ r. ⌜ Changed (self .bits) (offset .number) true (r .bits) ⌝ }
+    {
+        if self.has(offset) {
+            return self;
+        }
+        CompactWord {
+            bits: self.bits + (1u64 << offset.number) * 0x1_0000_0000_0000,
+        }
+    }
+
+    // The word without the page at an offset; none where no other page is in it.
+    pub fn without(self, offset: Offset) -> Option<CompactWord>
+        ensures { λ r. ⌜ BySome r ((k : ℕ) → (k ≡ offset .number → ⊥) → bit (offsets-in (self .bits)) k ≡ false) (λ w. Changed (self .bits) (offset .number) false (w .bits)) ⌝ }
+    {
+        if !self.has(offset) {
+            return Some(self);
+        }
+        let bits = self.bits - (1u64 << offset.number) * 0x1_0000_0000_0000;
+        if bits < 0x1_0000_0000_0000 {
+            None
+        } else {
+            Some(CompactWord { bits })
+        }
+    }
+}
