@@ -1,2 +1,4 @@
 pub mod Flip
 pub mod Offsets
+pub mod Blocks
+pub mod WordLaws

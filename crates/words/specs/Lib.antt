@@ -3,3 +3,5 @@ pub mod Layout
 pub mod Access
 pub mod Reading
 pub mod Words
+pub mod Blocks
+pub mod Laws
