@@ -2,3 +2,4 @@ pub mod Flip
 pub mod Offsets
 pub mod Blocks
 pub mod WordLaws
+pub mod Worked

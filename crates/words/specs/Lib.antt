@@ -1,7 +1,9 @@
 pub mod Made
+pub mod Points
 pub mod Layout
 pub mod Access
 pub mod Reading
 pub mod Words
 pub mod Blocks
 pub mod Laws
+pub mod Examples

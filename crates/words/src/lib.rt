@@ -19,6 +19,7 @@ pub use full::FullWord;
 pub use laws::accepted_are_values;
 pub use laws::one_word_for_a_page;
 pub use laws::same_word_same_pages;
+pub use laws::worked_values;
 pub use reader::joistolive_read_word;
 pub use reader::read_word;
 pub use translation::Access;
