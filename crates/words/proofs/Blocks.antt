@@ -17,9 +17,10 @@ use Rattle.words.specs.declared.translation.Translation.{Translation}
 use Rattle.words.specs.declared.form.Form.{Form}
 use Rattle.words.specs.declared.form.Form.the-variants as form
 use Rattle.words.specs.Layout.{bit, block-of, offset-of, page-at, compact-word, full-word, offsets-in, frame-block-in, attributes-in, frame-in, isCompact, isFull}
-use Rattle.words.specs.Reading.{form-number, inRange, isWord, translation, said, held, read-as, reading}
-use Rattle.words.specs.Blocks.{Mapping, InRange, Used, Placed, Compact, mapped-offsets, BlockWord, page-word, StandsFor}
+use Rattle.words.specs.Reading.{form-number, isWord, translation, said, held, read-as, reading}
+use Rattle.words.specs.Blocks.{Mapping, Used, Placed, Compact, mapped-offsets, BlockWord, page-word, StandsFor}
 use Rattle.words.proofs.Flip.{bit-le}
+use Rattle.words.proofs.Parts.{translation-is}
 
 offsets-lt : (m : Mapping) (b n : ℕ) → mapped-offsets m b n < 2 ^ n
 offsets-lt m b zero = omega arith
@@ -91,37 +92,35 @@ module _ (f a : ℕ) (h : f < 2 ^ 28) (j : a < 2 ^ 12) where
       let g = full-attributes-back in
       or-right (eqb (full-word f a) 0) _ (eq-eqb _ _ (omega arith))
 
-in-range : (t : Translation) → inRange t ≡ true → (t .frame < 2 ^ 28) × (t .attributes < 2 ^ 12)
-in-range t h = let (f, a) = and-parts (ltb (t .frame) (2 ^ 28)) _ h in (ltb-true _ _ f, ltb-true _ _ a)
-
 -- reading what is a word of its form
 pub sound-reading : (g : Form) (w o : ℕ) → isWord g w ≡ true → o < 16 → reading (form-number g) w o ≡ held (said g w o)
 sound-reading form.Compact w o s h = cond-true (isCompact w && leb o 15) _ _ (and-from (isCompact w) _ s (le-leb o 15 (omega arith)))
 sound-reading form.Full w o s h = cond-true (isFull w && leb o 15) _ _ (and-from (isFull w) _ s (le-leb o 15 (omega arith)))
 
-full-says : (x : Option Translation) (o : ℕ) → ((t : Translation) → x ≡ Some t → inRange t ≡ true) → said form.Full (page-word x) o ≡ x
-full-says None o r = refl
-full-says (Some t) o r =
-    let (f, a) = in-range t (r t refl) in
-    cond-false (eqb (full-word (t .frame) (t .attributes)) 0) _ _ (ne-eqb _ 0 (λ e. omega arith))
-    ∙ ap Some (ap₂ translation (frame-back (t .frame) (t .attributes) f a) (full-attributes-back (t .frame) (t .attributes) f a))
+full-says : (x : Option Translation) (o : ℕ) → said form.Full (page-word x) o ≡ x
+full-says None o = refl
+full-says (Some t) o =
+    let f = t .frames in
+    let a = t .bits in
+    cond-false (eqb (full-word (t .frame) (t .attributes)) 0) _ _ (ne-eqb _ 0 (λ e. omega arith)) ∙ ap Some (sym (translation-is t _ _ (omega arith) (omega arith)))
 
-page-sound : (x : Option Translation) → ((t : Translation) → x ≡ Some t → inRange t ≡ true) → isFull (page-word x) ≡ true
-page-sound None r = refl
-page-sound (Some t) r = let (f, a) = in-range t (r t refl) in full-sound (t .frame) (t .attributes) f a
+page-sound : (x : Option Translation) → isFull (page-word x) ≡ true
+page-sound None = refl
+page-sound (Some t) = full-sound (t .frame) (t .attributes) (t .frames) (t .bits)
 
-pub full-reading : (m : Mapping) (p o : ℕ) → InRange m → o < 16 → reading 2 (page-word (m p)) o ≡ held (m p)
-full-reading m p o r h = sound-reading form.Full (page-word (m p)) o (page-sound (m p) (r p)) h ∙ ap held (full-says (m p) o (r p))
+pub full-reading : (m : Mapping) (p o : ℕ) → o < 16 → reading 2 (page-word (m p)) o ≡ held (m p)
+full-reading m p o h = sound-reading form.Full (page-word (m p)) o (page-sound (m p)) h ∙ ap held (full-says (m p) o)
 
--- what all mapped pages of a block share is in range where one of them is
-ranged-parts : (m : Mapping) (b k a : ℕ) → InRange m → Used m b → Placed m b k a → (k < 2 ^ 24) × (a < 2 ^ 12)
-ranged-parts m b k a r (o, h, (t, e)) placed =
-    let (f, x) = in-range t (r _ t e) in
+-- what all mapped pages of a block share is in range
+ranged-parts : (m : Mapping) (b k a : ℕ) → Used m b → Placed m b k a → (k < 2 ^ 24) × (a < 2 ^ 12)
+ranged-parts m b k a (o, h, (t, e)) placed =
+    let f = t .frames in
+    let x = t .bits in
     let (i, j, l) = placed o t h e in
     (omega arith, omega arith)
 
 placed-is : (o k a : ℕ) (t : Translation) → offset-of (t .frame) ≡ o → block-of (t .frame) ≡ k → t .attributes ≡ a → translation (k * 16 + o) a ≡ t
-placed-is o k a t i j l = ap₂ translation (omega arith) (sym l)
+placed-is o k a t i j l = sym (translation-is t (k * 16 + o) a (omega arith) l)
 
 compact-says : (m : Mapping) (b k a o : ℕ) → Placed m b k a → k < 2 ^ 24 → a < 2 ^ 12 → o < 16 → said form.Compact (compact-word (mapped-offsets m b 16) k a) o ≡ m (page-at b o)
 compact-says m b k a o placed i j h =
@@ -136,9 +135,9 @@ compact-says m b k a o placed i j h =
     each None p e = refl
     each (Some t) p e = let (c, d, l) = p t h refl in ap Some (e ∙ placed-is o k a t c d l)
 
-pub compact-reading : (m : Mapping) (b w o : ℕ) → InRange m → BlockWord m b w → o < 16 → reading 1 w o ≡ held (m (page-at b o))
-compact-reading m b w o r (used, (k, a, placed, e)) h =
-    let (i, j) = ranged-parts m b k a r used placed in
+pub compact-reading : (m : Mapping) (b w o : ℕ) → BlockWord m b w → o < 16 → reading 1 w o ≡ held (m (page-at b o))
+compact-reading m b w o (used, (k, a, placed, e)) h =
+    let (i, j) = ranged-parts m b k a used placed in
     let os : ℕ = mapped-offsets m b 16 in
     ap (λ x. reading 1 x o) e
     ∙ sound-reading form.Compact (compact-word os k a) o (compact-sound os k a i j (used-offsets m b used)) h

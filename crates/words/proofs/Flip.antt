@@ -39,12 +39,12 @@ pub bit-kept : (m o k : ℕ) → bit m o ≡ false → (k ≡ o → ⊥) → bit
 bit-kept m o k h ne =
     ⊎-elim (λ e. absurd (ne e))
     (⊎-elim
-      (λ lt. let e : o ≡ k + (1 + (o - k - 1)) = omega arith in
-             let b = below-kept m k (o - k - 1) in
-             ap (λ (x : ℕ). eqb x 1) (rw (← e) at b))
-      (λ lt. let e : k ≡ o + (1 + (k - o - 1)) = omega arith in
-             let b = above-kept m o (k - o - 1) h in
-             ap (λ (x : ℕ). eqb (x % 2) 1) (rw (← e) at b)))
+    (λ lt. let e : o ≡ k + (1 + (o - k - 1)) = omega arith in
+    let b = below-kept m k (o - k - 1) in
+    ap (λ (x : ℕ). eqb x 1) (rw (← e) at b))
+    (λ lt. let e : k ≡ o + (1 + (k - o - 1)) = omega arith in
+    let b = above-kept m o (k - o - 1) h in
+    ap (λ (x : ℕ). eqb (x % 2) 1) (rw (← e) at b)))
     (cases-order k o)
 
 pub sum-fits : (m o : ℕ) → o < 16 → m < 2 ^ 16 → bit m o ≡ false → m + 2 ^ o < 2 ^ 16

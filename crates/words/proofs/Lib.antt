@@ -1,3 +1,4 @@
+pub mod Parts
 pub mod Flip
 pub mod Offsets
 pub mod Blocks

@@ -23,12 +23,13 @@ offsets-added w o lt = let e = weight-is o lt in omega arith
 -- by cases: the changed offset, and each other one
 changed : (w o v : ℕ) (x : Bool) → bit (offsets-in v) o ≡ x → ((k : ℕ) → (k ≡ o → ⊥) → bit (offsets-in v) k ≡ bit (offsets-in w) k) → v % 2 ^ 48 ≡ w % 2 ^ 48 → Changed w o x v
 changed w o v x here there rest = record {
-    offsets = λ k.
-        ⊎-elim
-        (λ e. ap (bit (offsets-in v)) e ∙ here ∙ sym (cond-true _ x (bit (offsets-in w) k) (eq-eqb k o e)))
-        (λ ne. there k ne ∙ sym (cond-false _ x (bit (offsets-in w) k) (ne-eqb k o ne)))
-        (cases-eq k o);
-    rest = rest }
+  offsets = λ k.
+      ⊎-elim
+      (λ e. ap (bit (offsets-in v)) e ∙ here ∙ sym (cond-true _ x (bit (offsets-in w) k) (eq-eqb k o e)))
+      (λ ne. there k ne ∙ sym (cond-false _ x (bit (offsets-in w) k) (ne-eqb k o ne)))
+      (cases-eq k o);
+  rest = rest;
+}
 
 -- a word that has the page already, or lacks it already
 pub unchanged : (w o : ℕ) (x : Bool) → bit (offsets-in w) o ≡ x → Changed w o x w

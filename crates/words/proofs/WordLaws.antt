@@ -20,21 +20,22 @@ use Rattle.words.specs.declared.word.Word.the-variants.{Compact as CompactValu
 use Rattle.words.specs.Layout.{block-of, offset-of, page-at, compact-word, isCompact, isFull}
 use Rattle.words.specs.Reading.{form-number, isWord, said, held, reading, answer-number}
 use Rattle.words.specs.Words.{form-of, bits-of}
-use Rattle.words.specs.Blocks.{Mapping, InRange, Used, Placed, mapped-offsets, BlockWord, page-word, StandsFor}
+use Rattle.words.specs.Blocks.{Mapping, Used, Placed, mapped-offsets, BlockWord, page-word, StandsFor}
 use Rattle.words.specs.Laws.{Tells, Accepts, IsValue, AcceptedAreValues, OneWord, SameWordSamePages}
 use Rattle.words.proofs.Blocks.{sound-reading, full-reading, compact-reading}
 
 own-page : (p : ℕ) → page-at (block-of p) (offset-of p) ≡ p
 own-page p = omega arith
 
-stands-reading : (m : Mapping) (p : ℕ) (g : Form) (w : ℕ) → InRange m → StandsFor m p g w → reading (form-number g) w (offset-of p) ≡ held (m p)
-stands-reading m p form.Compact w r s = compact-reading m (block-of p) w (offset-of p) r s (omega arith) ∙ ap (λ q. held (m q)) (own-page p)
-stands-reading m p form.Full w r (n, e) = ap (λ x. reading 2 x (offset-of p)) e ∙ full-reading m p (offset-of p) r (omega arith)
+stands-reading : (m : Mapping) (p : ℕ) (g : Form) (w : ℕ) → StandsFor m p g w → reading (form-number g) w (offset-of p) ≡ held (m p)
+stands-reading m p form.Compact w s = compact-reading m (block-of p) w (offset-of p) s (omega arith) ∙ ap (λ q. held (m q)) (own-page p)
+stands-reading m p form.Full w (n, e) = ap (λ x. reading 2 x (offset-of p)) e ∙ full-reading m p (offset-of p) (omega arith)
 
 pub tells : (f w o : ℕ) → Tells f w o (answer-number (reading f w o))
 tells f w o = record {
-    own = λ m p g r e s i. ap answer-number (ap₂ (λ x y. reading x w y) (sym e) (sym i) ∙ stands-reading m p g w r s);
-    neighbours = λ m p r e s h. ap answer-number (ap (λ x. reading x w o) (sym e) ∙ compact-reading m (block-of p) w o r s h) }
+  own = λ m p g e s i. ap answer-number (ap₂ (λ x y. reading x w y) (sym e) (sym i) ∙ stands-reading m p g w s);
+  neighbours = λ m p e s h. ap answer-number (ap (λ x. reading x w o) (sym e) ∙ compact-reading m (block-of p) w o s h);
+}
 
 held-bad : (x : Option Translation) → held x ≡ Err BadWord → ⊥
 held-bad (Some t) e = let z : _≡_ {A = ℕ} 0 1 = cc in omega arith
@@ -66,9 +67,9 @@ accepted f w small acc =
     ⊎-elim
     (λ e. (CompactValue (record { bits = w; sound = sound-if-accepted form.Compact w (subst (λ x. Accepts x w) e acc) }), (sym e, refl)))
     (λ ne. ⊎-elim
-        (λ e. (FullValue (record { bits = w; sound = sound-if-accepted form.Full w (subst (λ x. Accepts x w) e acc) }), (sym e, refl)))
-        (λ nf. absurd (acc 0 (omega arith) (cond-false (eqb f 1) _ _ (ne-eqb f 1 ne) ∙ cond-false (eqb f 2) _ _ (ne-eqb f 2 nf))))
-        (cases-eq f 2))
+    (λ e. (FullValue (record { bits = w; sound = sound-if-accepted form.Full w (subst (λ x. Accepts x w) e acc) }), (sym e, refl)))
+    (λ nf. absurd (acc 0 (omega arith) (cond-false (eqb f 1) _ _ (ne-eqb f 1 ne) ∙ cond-false (eqb f 2) _ _ (ne-eqb f 2 nf))))
+    (cases-eq f 2))
     (cases-eq f 1)
 
 pub accepted-are-values : AcceptedAreValues
@@ -87,4 +88,4 @@ one-word m p form.Compact form.Full w v (_, (k, a, placed, _)) (n, _) = absurd (
 one-word m p form.Full form.Compact w v (n, _) (_, (k, a, placed, _)) = absurd (n (k, a, placed))
 
 pub same-word-same-pages : SameWordSamePages
-same-word-same-pages m n b w r s x y o h = held-same (m (page-at b o)) (n (page-at b o)) (sym (compact-reading m b w o r x h) ∙ compact-reading n b w o s y h)
+same-word-same-pages m n b w x y o h = held-same (m (page-at b o)) (n (page-at b o)) (sym (compact-reading m b w o x h) ∙ compact-reading n b w o y h)

@@ -54,7 +54,7 @@ whole-placed : Placed whole 4 0x100 3
 whole-placed o t h e =
     let i : eqb (block-of (page-at 4 o)) 4 ≡ true = eq-eqb _ 4 (omega arith) in
     let z = some-is (translation (0x1000 + offset-of (page-at 4 o)) 3) t (sym (cond-true _ (Some (translation (0x1000 + offset-of (page-at 4 o)) 3)) None i) ∙ e) in
-    let f : t .frame ≡ 0x1000 + offset-of (page-at 4 o) = ap (λ (u : Translation). u .frame) (sym z) in
+    let f : t .frame ≡ (0x1000 + offset-of (page-at 4 o)) % 2 ^ 28 = ap (λ (u : Translation). u .frame) (sym z) in
     let a : t .attributes ≡ 3 = ap (λ (u : Translation). u .attributes) (sym z) in
     (omega arith, omega arith, a)
 
@@ -77,17 +77,18 @@ mixed (k, a, placed) =
 
 pub examples : Examples
 examples = record {
-    low-address = (refl, refl, refl, refl);
-    top-block = refl;
-    top-place = (refl, refl);
-    placed-page = ((1, omega arith, (translation 0x1001 3, refl)), (0x100, 3, single-placed, refl));
-    misplaced-page = (misplaced, refl);
-    whole-block = ((1, omega arith, (translation 0x1001 3, refl)), (0x100, 3, whole-placed, refl));
-    one-protected = (mixed, refl);
-    no-write = refl;
-    protected-back = ((1, omega arith, (translation 0x1001 3, refl)), (0x100, 3, restored-placed, refl));
-    one-released = ((2, omega arith, (translation 0x1002 3, refl)), (0x100, 3, released-placed, refl));
-    read-there = refl;
-    read-absent = refl;
-    no-offset-bit = refl;
-    no-top-bit = refl }
+  low-address = (refl, refl, refl, refl);
+  top-block = refl;
+  top-place = (refl, refl);
+  placed-page = ((1, omega arith, (translation 0x1001 3, refl)), (0x100, 3, single-placed, refl));
+  misplaced-page = (misplaced, refl);
+  whole-block = ((1, omega arith, (translation 0x1001 3, refl)), (0x100, 3, whole-placed, refl));
+  one-protected = (mixed, refl);
+  no-write = refl;
+  protected-back = ((1, omega arith, (translation 0x1001 3, refl)), (0x100, 3, restored-placed, refl));
+  one-released = ((2, omega arith, (translation 0x1002 3, refl)), (0x100, 3, released-placed, refl));
+  read-there = refl;
+  read-absent = refl;
+  no-offset-bit = refl;
+  no-top-bit = refl;
+}

@@ -9,7 +9,6 @@ use Rattle.words.specs.declared.translation.Translation.{Translation}
 use Rattle.words.specs.declared.form.Form.{Form}
 use Rattle.words.specs.declared.form.Form.the-variants as form
 use Rattle.words.specs.Layout.{block-of, offset-of, page-at, compact-word, full-word}
-use Rattle.words.specs.Reading.{inRange}
 
 -- what each page is mapped to
 abbrev pub Mapping : Type 0
@@ -17,10 +16,6 @@ Mapping = ℕ → Option Translation
 
 abbrev pub IsMapped : Mapping → ℕ → Type 0
 IsMapped m p = (t : Translation) × (m p ≡ Some t)
-
--- every mapped page has a frame and attributes of the machine
-abbrev pub InRange : Mapping → Type 0
-InRange m = (p : ℕ) (t : Translation) → m p ≡ Some t → inRange t ≡ true
 
 -- the block b has a mapped page
 abbrev pub Used : Mapping → ℕ → Type 0

@@ -6,7 +6,7 @@ use lib.Dec.{eqb}
 use Rattle.std.specs.declared.option.Option.{Option}
 use Rattle.std.specs.declared.option.Option.the-variants.{Some, None}
 use Rattle.words.specs.declared.form.Form.the-variants as form
-use Rattle.words.specs.declared.translation.Access.the-variants.{Write}
+use Rattle.words.specs.declared.access.Access.the-variants.{Write}
 use Rattle.words.specs.Access.{allowed}
 use Rattle.words.specs.Points.{at}
 use Rattle.words.specs.Layout.{page-of, block-of, offset-of, bucket-of}

@@ -9,14 +9,14 @@ use Rattle.words.specs.declared.word.Word.{Word}
 use Rattle.words.specs.Layout.{block-of, offset-of, page-at}
 use Rattle.words.specs.Reading.{form-number, reading, held, answer-number}
 use Rattle.words.specs.Words.{form-of, bits-of}
-use Rattle.words.specs.Blocks.{Mapping, InRange, BlockWord, StandsFor}
+use Rattle.words.specs.Blocks.{Mapping, BlockWord, StandsFor}
 
 -- the reader's answer r at a form f, a word w and an offset o, whatever map and page the form and the word stand for
 pub record Tells (f w o r : ℕ) : Type 0 where
   -- at the page's own offset the answer is what the map has for the page
-  pub own : (m : Mapping) (p : ℕ) (g : Form) → InRange m → form-number g ≡ f → StandsFor m p g w → offset-of p ≡ o → r ≡ answer-number (held (m p))
+  pub own : (m : Mapping) (p : ℕ) (g : Form) → form-number g ≡ f → StandsFor m p g w → offset-of p ≡ o → r ≡ answer-number (held (m p))
   -- a compact word answers so for each page of the block
-  pub neighbours : (m : Mapping) (p : ℕ) → InRange m → form-number form.Compact ≡ f → StandsFor m p form.Compact w → o < 16 → r ≡ answer-number (held (m (page-at (block-of p) o)))
+  pub neighbours : (m : Mapping) (p : ℕ) → form-number form.Compact ≡ f → StandsFor m p form.Compact w → o < 16 → r ≡ answer-number (held (m (page-at (block-of p) o)))
 
 -- the reader takes w for a word of the form f
 abbrev pub Accepts : ℕ → ℕ → Type 0
@@ -37,4 +37,4 @@ OneWord = (m : Mapping) (p : ℕ) (g h : Form) (w v : ℕ) → StandsFor m p g w
 
 -- two maps that give a compact block the same word agree on its pages
 abbrev pub SameWordSamePages : Type 0
-SameWordSamePages = (m n : Mapping) (b w : ℕ) → InRange m → InRange n → BlockWord m b w → BlockWord n b w → (o : ℕ) → o < 16 → m (page-at b o) ≡ n (page-at b o)
+SameWordSamePages = (m n : Mapping) (b w : ℕ) → BlockWord m b w → BlockWord n b w → (o : ℕ) → o < 16 → m (page-at b o) ≡ n (page-at b o)

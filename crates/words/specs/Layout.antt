@@ -52,6 +52,10 @@ pub record Changed (w o : ℕ) (x : Bool) (v : ℕ) : Type 0 where
 abbrev pub areParts : ℕ → ℕ → ℕ → Bool
 areParts os k a = ltb 0 os && (ltb k (2 ^ 24) && ltb a (2 ^ 12))
 
+-- frames of the machine are below 2^28, attributes below 4,096
+abbrev pub inRange : ℕ → ℕ → Bool
+inRange f a = ltb f (2 ^ 28) && ltb a (2 ^ 12)
+
 -- a full word has bit 63, the frame from bit 12 on, the attributes from bit 0 on
 abbrev pub full-word : ℕ → ℕ → ℕ
 full-word f a = 2 ^ 63 + f * 2 ^ 12 + a

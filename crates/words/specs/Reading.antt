@@ -2,7 +2,8 @@
 use Prim.Native.Nat.{ℕ, _+_, _*_, _/_, _%_, _^_, _<_, _≤_}
 use mathlib.Core.Path.{_≡_}
 use mathlib.Core.Bool.{Bool, true, false, cond, _&&_, _||_}
-use lib.Dec.{eqb, ltb, leb}
+use native.Mathlib.Nat.{mod-lt}
+use lib.Dec.{eqb, leb, lit<}
 use Rattle.std.specs.declared.option.Option.{Option}
 use Rattle.std.specs.declared.option.Option.the-variants.{Some, None}
 use Rattle.std.specs.declared.result.Result.{Result}
@@ -27,12 +28,9 @@ abbrev pub isWord : Form → ℕ → Bool
 isWord form.Compact w = isCompact w
 isWord form.Full w = isFull w
 
+-- the frame f with the attributes a: a number past the machine's range is taken within it
 abbrev pub translation : ℕ → ℕ → Translation
-translation f a = record { frame = f; attributes = a }
-
--- a frame and attributes of the machine
-abbrev pub inRange : Translation → Bool
-inRange t = ltb (t .frame) (2 ^ 28) && ltb (t .attributes) (2 ^ 12)
+translation f a = record { frame = f % 2 ^ 28; attributes = a % 2 ^ 12; frames = mod-lt f (lit< tt); bits = mod-lt a (lit< tt) }
 
 -- a page at the offset o is properly placed when its frame has the same offset in its frame block
 abbrev pub isPlaced : ℕ → Translation → Bool

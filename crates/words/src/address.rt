@@ -63,17 +63,6 @@ impl Page {
 }
 
 impl Block {
-    // The block of a number; none where it is 2^48 or more.
-    pub fn new(number: u64) -> Option<Block>
-        ensures { λ r. ⌜ BySome r (2 ^ 48 ≤ number) (λ b. b .number ≡ number) ⌝ }
-    {
-        if number < 0x1_0000_0000_0000 {
-            Some(Block { number })
-        } else {
-            None
-        }
-    }
-
     // Which of the 64 chains of a page table the block belongs to.
     pub fn bucket(self) -> usize
         ensures { λ r. ⌜ r ≡ bucket-of (self .number) ⌝ }

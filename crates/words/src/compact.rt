@@ -1,18 +1,18 @@
 // A compact word: up to sixteen pages of one block, properly placed in one frame block, with equal attributes.
 ghost use mathlib.Core.Path.{_≡_};
-ghost use mathlib.Core.Bool.{true, false, _&&_};
+ghost use mathlib.Core.Bool.{true, false};
 ghost use Prim.Native.Nat.{ℕ, _^_};
 ghost use Rattle.std.specs.Options.{Cases as BySome};
 ghost use Rattle.words.specs.Layout.{bit, block-of, compact-word, areParts, offsets-in, frame-block-in, attributes-in, isCompact, Changed};
 ghost use Rattle.words.specs.Made.{Made};
-ghost use Rattle.words.specs.Reading.{inRange, isPlaced, said};
+ghost use Rattle.words.specs.Reading.{isPlaced, said};
 ghost use Rattle.words.specs.declared.form.Form.the-variants as shape;
 use crate::address::Offset;
 use crate::translation::Translation;
 
 #[derive(Clone, Copy)]
 pub struct CompactWord {
-    bits: u64,
+    pub bits: u64,
     ghost sound: { isCompact bits ≡ true },
 }
 
@@ -21,7 +21,10 @@ impl CompactWord {
     pub fn from_bits(bits: u64) -> Option<CompactWord>
         ensures { λ r. ⌜ Made r (isCompact bits) (λ w. w .bits ≡ bits) ⌝ }
     {
-        if bits / 0x1000 % 0x10 == 0 && bits / 0x100_0000_0000 % 0x100 == 0 && bits >= 0x1_0000_0000_0000 {
+        if bits / 0x1000 % 0x10 == 0
+            && bits / 0x100_0000_0000 % 0x100 == 0
+            && bits >= 0x1_0000_0000_0000
+        {
             Some(CompactWord { bits })
         } else {
             None
@@ -36,24 +39,24 @@ impl CompactWord {
             return None;
         }
         Some(CompactWord {
-            bits: u64::from(offsets) * 0x1_0000_0000_0000 + u64::from(frame_block) * 0x1_0000 + u64::from(attributes),
+            bits: u64::from(offsets) * 0x1_0000_0000_0000
+                + u64::from(frame_block) * 0x1_0000
+                + u64::from(attributes),
         })
     }
 
-    // The word of a single page; none where it is not properly placed, or its frame or attributes are too large.
+    // The word of a single page; none where it is not properly placed.
     pub fn of_page(offset: Offset, translation: Translation) -> Option<CompactWord>
-        ensures { λ r. ⌜ Made r (isPlaced (offset .number) translation && inRange translation) (λ w. w .bits ≡ compact-word (2 ^ offset .number) (block-of (translation .frame)) (translation .attributes)) ⌝ }
+        ensures { λ r. ⌜ Made r (isPlaced (offset .number) translation) (λ w. w .bits ≡ compact-word (2 ^ offset .number) (block-of (translation .frame)) (translation .attributes)) ⌝ }
     {
         if !translation.properly_placed(offset) {
             return None;
         }
-        CompactWord::from_parts(1 << offset.number, translation.frame / 16, translation.attributes)
-    }
-
-    pub fn bits(self) -> u64
-        ensures { λ r. ⌜ r ≡ self .bits ⌝ }
-    {
-        self.bits
+        CompactWord::from_parts(
+            1 << offset.number,
+            translation.frame / 16,
+            translation.attributes,
+        )
     }
 
     // One bit for each offset whose page is in the word, offset 0 in bit 0.
@@ -75,7 +78,7 @@ impl CompactWord {
         (self.bits % 0x1000) as u16
     }
 
-    pub fn has(self, offset: Offset) -> bool
+    fn has(self, offset: Offset) -> bool
         ensures { λ r. ⌜ r ≡ bit (offsets-in (self .bits)) (offset .number) ⌝ }
     {
         (self.bits / 0x1_0000_0000_0000 >> offset.number) % 2 == 1

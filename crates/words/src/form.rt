@@ -4,7 +4,7 @@ ghost use Rattle.std.specs.Options.{Cases as BySome};
 ghost use Rattle.words.specs.Reading.{form-number};
 ghost use Rattle.words.specs.declared.form.Form.{Form as Shape};
 
-#[derive(Clone, Copy, PartialEq, Eq, Debug)]
+#[derive(Clone, Copy)]
 pub enum Form {
     Compact,
     Full,

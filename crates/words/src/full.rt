@@ -3,13 +3,13 @@ ghost use mathlib.Core.Path.{_≡_};
 ghost use mathlib.Core.Bool.{true};
 ghost use Rattle.words.specs.Layout.{full-word, isFull};
 ghost use Rattle.words.specs.Made.{Made};
-ghost use Rattle.words.specs.Reading.{inRange, said};
+ghost use Rattle.words.specs.Reading.{said};
 ghost use Rattle.words.specs.declared.form.Form.the-variants as shape;
 use crate::translation::Translation;
 
 #[derive(Clone, Copy)]
 pub struct FullWord {
-    bits: u64,
+    pub bits: u64,
     ghost sound: { isFull bits ≡ true },
 }
 
@@ -32,22 +32,15 @@ impl FullWord {
         }
     }
 
-    // The word of a page that is mapped; none where its frame or attributes are too large.
-    pub fn of_page(translation: Translation) -> Option<FullWord>
-        ensures { λ r. ⌜ Made r (inRange translation) (λ w. w .bits ≡ full-word (translation .frame) (translation .attributes)) ⌝ }
+    // The word of a page that is mapped.
+    pub fn of_page(translation: Translation) -> FullWord
+        ensures { λ r. ⌜ r .bits ≡ full-word (translation .frame) (translation .attributes) ⌝ }
     {
-        if translation.frame >= 0x1000_0000 || translation.attributes >= 0x1000 {
-            return None;
+        FullWord {
+            bits: 0x8000_0000_0000_0000
+                + u64::from(translation.frame) * 0x1000
+                + u64::from(translation.attributes),
         }
-        Some(FullWord {
-            bits: 0x8000_0000_0000_0000 + u64::from(translation.frame) * 0x1000 + u64::from(translation.attributes),
-        })
-    }
-
-    pub fn bits(self) -> u64
-        ensures { λ r. ⌜ r ≡ self .bits ⌝ }
-    {
-        self.bits
     }
 
     // What the page is mapped to.

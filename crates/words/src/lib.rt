@@ -1,4 +1,5 @@
 // Pages, blocks and mapping words of a clustered page table, and the reader that a TLB miss handler calls.
+mod access;
 mod address;
 mod compact;
 mod fault;
@@ -9,11 +10,14 @@ mod reader;
 mod translation;
 mod word;
 
+pub use access::Access;
 pub use address::Block;
 pub use address::Offset;
 pub use address::Page;
 pub use compact::CompactWord;
 pub use fault::ReadFault;
+pub use fault::ReadFaultDebug;
+pub use fault::ReadFaultPartialEq;
 pub use form::Form;
 pub use full::FullWord;
 pub use laws::accepted_are_values;
@@ -22,6 +26,7 @@ pub use laws::same_word_same_pages;
 pub use laws::worked_values;
 pub use reader::joistolive_read_word;
 pub use reader::read_word;
-pub use translation::Access;
 pub use translation::Translation;
+pub use translation::TranslationDebug;
+pub use translation::TranslationPartialEq;
 pub use word::Word;

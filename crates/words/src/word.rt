@@ -39,8 +39,8 @@ impl Word {
         ensures { λ r. ⌜ r ≡ bits-of self ⌝ }
     {
         match self {
-            Word::Compact(word) => word.bits(),
-            Word::Full(word) => word.bits(),
+            Word::Compact(word) => word.bits,
+            Word::Full(word) => word.bits,
         }
     }
 

@@ -11,4 +11,5 @@ returns c =
     let e : c .encoded .result ≡ answer-number (reading (c .args .form) (c .args .word) (c .args .offset)) = search needs in
     record {
       answer = e;
-      map = subst (Tells (c .args .form) (c .args .word) (c .args .offset)) (sym e) (tells (c .args .form) (c .args .word) (c .args .offset)) }
+      map = subst (Tells (c .args .form) (c .args .word) (c .args .offset)) (sym e) (tells (c .args .form) (c .args .word) (c .args .offset));
+    }
