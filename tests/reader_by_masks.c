@@ -41,17 +41,14 @@ static uint64_t draw(void)
     return state;
 }
 
-static uint64_t draw_word(void)
+static uint64_t draw_word(uint64_t form)
 {
     uint64_t word = draw();
-    switch (draw() % 4) {
-    case 0: word &= UINT64_C(0xFFFF00FFFFFF0FFF); break;
-    case 1: word = (word & UINT64_C(0xFFFFFFFFFF)) | UINT64_C(1) << 63; break;
-    case 2: word &= draw() & draw() & draw(); break;
-    }
+    if (draw() % 8)
+        word = form == 1 ? word & UINT64_C(0xFFFF00FFFFFF0FFF) : (word & UINT64_C(0xFFFFFFFFFF)) | UINT64_C(1) << 63;
     if (draw() % 4 == 0)
         word ^= UINT64_C(1) << draw() % 64;
-    if (draw() % 64 == 0)
+    if (draw() % 16 == 0)
         word = 0;
     return word;
 }
@@ -63,7 +60,7 @@ int main(void)
 
     for (int i = 0; i < CASES; i++) {
         uint64_t form = draw() % 16 ? 1 + draw() % 2 : draw() % 300;
-        uint64_t word = draw_word();
+        uint64_t word = draw_word(form);
         uint64_t offset = draw() % 32 ? draw() % 16 : draw() % 300;
         uint64_t expected = by_masks(form, word, offset);
         uint64_t answer = joistolive_read_word(form, word, offset);
