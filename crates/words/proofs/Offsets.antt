@@ -1,14 +1,15 @@
--- What putting a page into a compact word, or taking it out, does to each offset.
+-- What putting pages into a compact word, or taking them out, does to each offset.
 use Prim.Native.Nat.{ℕ, _+_, _-_, _*_, _/_, _%_, _^_, _<_, _≤_}
 use mathlib.Core.Path.{_≡_, refl, sym, ap, _∙_}
-use mathlib.Core.Bool.{Bool, true, false, cond}
+use mathlib.Core.Bool.{Bool, true, false, not, _&&_, _||_}
 use mathlib.Core.Logic.{⊎-elim}
 use native.Mathlib.Omega.{arith}
+use lib.Bits.{bitAnd}
 use lib.Dec.{eqb}
-use Rattle.std.proofs.shelf.Bits.{one-shl}
-use Rattle.std.proofs.shelf.Tests.{cases-eq, eq-eqb, ne-eqb, cond-true, cond-false}
-use Rattle.words.specs.Layout.{bit, offsets-in, Changed}
-use Rattle.words.proofs.Flip.{bit-added, bit-kept, bit-le, bit-gone, sum-fits}
+use Rattle.std.proofs.shelf.Bits.{one-shl, and-le-l}
+use Rattle.std.proofs.shelf.Tests.{cases-eq, eq-eqb, ne-eqb, or-right}
+use Rattle.words.specs.Layout.{bit, offsets-in, Offsets, plus, minus, minus-all}
+use Rattle.words.proofs.Flip.{bit-added, bit-kept, no-bit, one-bit, sum-fits, cleared-bit}
 
 -- the weight of an offset's bit, as the code computes it
 abbrev pub weight : ℕ → ℕ
@@ -20,57 +21,60 @@ weight-is o lt = ap (λ (x : ℕ). x * 2 ^ 48) (one-shl o 64 (omega arith))
 offsets-added : (w o : ℕ) → o < 16 → offsets-in (w + weight o) ≡ offsets-in w + 2 ^ o
 offsets-added w o lt = let e = weight-is o lt in omega arith
 
--- by cases: the changed offset, and each other one
-changed : (w o v : ℕ) (x : Bool) → bit (offsets-in v) o ≡ x → ((k : ℕ) → (k ≡ o → ⊥) → bit (offsets-in v) k ≡ bit (offsets-in w) k) → v % 2 ^ 48 ≡ w % 2 ^ 48 → Changed w o x v
-changed w o v x here there rest = record {
-  offsets = λ k.
-      ⊎-elim
-      (λ e. ap (bit (offsets-in v)) e ∙ here ∙ sym (cond-true _ x (bit (offsets-in w) k) (eq-eqb k o e)))
-      (λ ne. there k ne ∙ sym (cond-false _ x (bit (offsets-in w) k) (ne-eqb k o ne)))
-      (cases-eq k o);
-  rest = rest;
-}
+or-false : (b : Bool) → (b || false) ≡ b
+or-false true = refl
+or-false false = refl
 
--- a word that has the page already, or lacks it already
-pub unchanged : (w o : ℕ) (x : Bool) → bit (offsets-in w) o ≡ x → Changed w o x w
-unchanged w o x here = changed w o w x here (λ k ne. refl) refl
+plus-here : (w o k : ℕ) → k ≡ o → plus w o k ≡ true
+plus-here w o k e = or-right (bit (offsets-in w) k) _ (eq-eqb k o e)
+
+plus-there : (w o k : ℕ) → (k ≡ o → ⊥) → plus w o k ≡ bit (offsets-in w) k
+plus-there w o k ne = ap (λ x. bit (offsets-in w) k || x) (ne-eqb k o ne) ∙ or-false (bit (offsets-in w) k)
+
+-- the page is in the word already
+pub present : (w o : ℕ) → bit (offsets-in w) o ≡ true → Offsets w (plus w o) w
+present w o h = record {
+  each = λ k. ⊎-elim (λ e. ap (bit (offsets-in w)) e ∙ h ∙ sym (plus-here w o k e)) (λ ne. sym (plus-there w o k ne)) (cases-eq k o);
+  rest = refl;
+}
 
 module _ (w o : ℕ) (lt : o < 16) (absent : bit (offsets-in w) o ≡ false) where
   pub added-fits : w < 2 ^ 64 → w + weight o < 2 ^ 64
-  added-fits f = let e = weight-is o lt in let s = sum-fits (offsets-in w) o lt (omega arith) absent in omega arith
+  added-fits f =
+      let e = weight-is o lt in
+      let s = sum-fits (offsets-in w) o lt (omega arith) absent in
+      omega arith
 
-  pub added : Changed w o true (w + weight o)
-  added =
-      changed w o (w + weight o) true
-      (ap (λ (m : ℕ). bit m o) (offsets-added w o lt) ∙ bit-added (offsets-in w) o absent)
-      (λ k ne. ap (λ (m : ℕ). bit m k) (offsets-added w o lt) ∙ bit-kept (offsets-in w) o k absent ne)
-      (let e = weight-is o lt in omega arith)
+  sum-bit : (k : ℕ) → bit (offsets-in w + 2 ^ o) k ≡ plus w o k
+  sum-bit k =
+      ⊎-elim
+      (λ e. ap (bit (offsets-in w + 2 ^ o)) e ∙ bit-added (offsets-in w) o absent ∙ sym (plus-here w o k e))
+      (λ ne. bit-kept (offsets-in w) o k absent ne ∙ sym (plus-there w o k ne))
+      (cases-eq k o)
 
-module _ (w o : ℕ) (lt : o < 16) (present : bit (offsets-in w) o ≡ true) where
-  pub taken-le : weight o ≤ w
-  taken-le = let e = weight-is o lt in let s = bit-le (offsets-in w) o present in omega arith
+  pub added : Offsets w (plus w o) (w + weight o)
+  added = record {
+    each = λ k. ap (λ (m : ℕ). bit m k) (offsets-added w o lt) ∙ sum-bit k;
+    rest = let e = weight-is o lt in omega arith;
+  }
 
-  back : (w - weight o) + weight o ≡ w
-  back = let l = taken-le in omega arith
+-- what is left of the offsets, as the code computes it
+abbrev pub left : ℕ → ℕ → ℕ
+left w os = bitAnd (offsets-in w) (2 ^ 16 - 1 - os)
 
-  gone : bit (offsets-in (w - weight o)) o ≡ false
-  gone =
-      bit-gone (offsets-in (w - weight o)) o
-      (ap (λ (m : ℕ). bit m o) (sym (offsets-added (w - weight o) o lt)) ∙ ap (λ (v : ℕ). bit (offsets-in v) o) back ∙ present)
+module _ (w os : ℕ) (f : w < 2 ^ 64) (g : os < 2 ^ 16) where
+  left-bit : (k : ℕ) → bit (left w os) k ≡ minus-all w os k
+  left-bit k = cleared-bit (offsets-in w) os k (omega arith) g
 
-  others : (k : ℕ) → (k ≡ o → ⊥) → bit (offsets-in (w - weight o)) k ≡ bit (offsets-in w) k
-  others k ne =
-      sym (bit-kept (offsets-in (w - weight o)) o k gone ne)
-      ∙ ap (λ (m : ℕ). bit m k) (sym (offsets-added (w - weight o) o lt)) ∙ ap (λ (v : ℕ). bit (offsets-in v) k) back
+  pub none-left : left w os ≡ 0 → (k : ℕ) → minus-all w os k ≡ false
+  none-left z k = sym (left-bit k) ∙ ap (λ x. bit x k) z ∙ no-bit k
 
-  pub taken : Changed w o false (w - weight o)
-  taken = changed w o (w - weight o) false gone others (let e = weight-is o lt in let b = back in omega arith)
+  pub some-left : Offsets w (minus-all w os) (left w os * 2 ^ 48 + w % 2 ^ 48)
+  some-left = record {
+    each = λ k. ap (λ x. bit x k) (omega arith) ∙ left-bit k;
+    rest = omega arith;
+  }
 
-  -- where no offset is left, each other one was absent
-  pub alone : w - weight o < 2 ^ 48 → (k : ℕ) → (k ≡ o → ⊥) → bit (offsets-in w) k ≡ false
-  alone small k ne =
-      let z : offsets-in (w - weight o) ≡ 0 = omega arith in
-      sym (others k ne) ∙ ap (λ (m : ℕ). bit m k) z ∙ nothing k
-    where
-      nothing : (k : ℕ) → bit 0 k ≡ false
-      nothing k = ne-eqb _ 1 (λ h. omega (arith, native.Mathlib.Nat.zero-div (2 ^ k)))
+-- one offset, as a number with one bit
+pub minus-one : (w o k : ℕ) → o < 16 → minus-all w ((1 * 2 ^ o) % 2 ^ 16) k ≡ minus w o k
+minus-one w o k lt = ap (λ x. bit (offsets-in w) k && not x) (ap (λ x. bit x k) (one-shl o 16 lt) ∙ one-bit o k)

@@ -1,7 +1,7 @@
 -- Where the parts of an address and of a mapping word stand, as quotients and remainders of plain numbers.
 use Prim.Native.Nat.{ℕ, _+_, _*_, _/_, _%_, _^_, _<_, _≤_}
 use mathlib.Core.Path.{_≡_}
-use mathlib.Core.Bool.{Bool, true, false, cond, _&&_, _||_}
+use mathlib.Core.Bool.{Bool, not, _&&_, _||_}
 use lib.Dec.{eqb, ltb}
 
 -- a page has 4,096 bytes, a block sixteen pages
@@ -43,10 +43,22 @@ attributes-in w = w % 2 ^ 12
 abbrev pub isCompact : ℕ → Bool
 isCompact w = ltb 0 (offsets-in w) && eqb w (compact-word (offsets-in w) (frame-block-in w) (attributes-in w))
 
--- the compact word v is w, but that the page at the offset o is in it exactly when x says so
-pub record Changed (w o : ℕ) (x : Bool) (v : ℕ) : Type 0 where
-  pub offsets : (k : ℕ) → bit (offsets-in v) k ≡ cond (eqb k o) x (bit (offsets-in w) k)
+-- the word v is w but for its offsets, which are those that the test has
+pub record Offsets (w : ℕ) (has : ℕ → Bool) (v : ℕ) : Type 0 where
+  pub each : (k : ℕ) → bit (offsets-in v) k ≡ has k
   pub rest : v % 2 ^ 48 ≡ w % 2 ^ 48
+
+-- the offsets of the word w and the offset o
+abbrev pub plus : ℕ → ℕ → ℕ → Bool
+plus w o k = bit (offsets-in w) k || eqb k o
+
+-- the offsets of the word w without the offset o
+abbrev pub minus : ℕ → ℕ → ℕ → Bool
+minus w o k = bit (offsets-in w) k && not (eqb k o)
+
+-- the offsets of the word w without those whose bits os has
+abbrev pub minus-all : ℕ → ℕ → ℕ → Bool
+minus-all w os k = bit (offsets-in w) k && not (bit os k)
 
 -- parts that a compact word can have
 abbrev pub areParts : ℕ → ℕ → ℕ → Bool

@@ -3,7 +3,7 @@ ghost use mathlib.Core.Path.{_≡_};
 ghost use mathlib.Core.Bool.{true, false};
 ghost use Prim.Native.Nat.{ℕ, _^_};
 ghost use Rattle.std.specs.Options.{Cases as BySome};
-ghost use Rattle.words.specs.Layout.{bit, block-of, compact-word, areParts, offsets-in, frame-block-in, attributes-in, isCompact, Changed};
+ghost use Rattle.words.specs.Layout.{block-of, bit, compact-word, areParts, offsets-in, frame-block-in, attributes-in, isCompact, Offsets, plus, minus, minus-all};
 ghost use Rattle.words.specs.Made.{Made};
 ghost use Rattle.words.specs.Reading.{isPlaced, said};
 ghost use Rattle.words.specs.declared.form.Form.the-variants as shape;
@@ -100,7 +100,7 @@ impl CompactWord {
 
     // The word with the page at an offset in it.
     pub fn with(self, offset: Offset) -> CompactWord
-        ensures { λ r. ⌜ Changed (self .bits) (offset .number) true (r .bits) ⌝ }
+        ensures { λ r. ⌜ Offsets (self .bits) (plus (self .bits) (offset .number)) (r .bits) ⌝ }
     {
         if self.has(offset) {
             return self;
@@ -112,16 +112,21 @@ impl CompactWord {
 
     // The word without the page at an offset; none where no other page is in it.
     pub fn without(self, offset: Offset) -> Option<CompactWord>
-        ensures { λ r. ⌜ BySome r ((k : ℕ) → (k ≡ offset .number → ⊥) → bit (offsets-in (self .bits)) k ≡ false) (λ w. Changed (self .bits) (offset .number) false (w .bits)) ⌝ }
+        ensures { λ r. ⌜ BySome r ((k : ℕ) → minus (self .bits) (offset .number) k ≡ false) (λ w. Offsets (self .bits) (minus (self .bits) (offset .number)) (w .bits)) ⌝ }
     {
-        if !self.has(offset) {
-            return Some(self);
+        self.without_all(1 << offset.number)
+    }
+
+    // The word without the pages at the offsets whose bits are set; none where no other page is in it.
+    pub fn without_all(self, offsets: u16) -> Option<CompactWord>
+        ensures { λ r. ⌜ BySome r ((k : ℕ) → minus-all (self .bits) offsets k ≡ false) (λ w. Offsets (self .bits) (minus-all (self .bits) offsets) (w .bits)) ⌝ }
+    {
+        let left = self.offsets() & !offsets;
+        if left == 0 {
+            return None;
         }
-        let bits = self.bits - (1u64 << offset.number) * 0x1_0000_0000_0000;
-        if bits < 0x1_0000_0000_0000 {
-            None
-        } else {
-            Some(CompactWord { bits })
-        }
+        Some(CompactWord {
+            bits: u64::from(left) * 0x1_0000_0000_0000 + self.bits % 0x1_0000_0000_0000,
+        })
     }
 }

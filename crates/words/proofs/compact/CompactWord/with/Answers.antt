@@ -2,8 +2,11 @@ use Prim.Native.Nat.{_+_, _<_, _^_}
 use mathlib.Core.Path.{sym}
 use native.Mathlib.Omega.{arith}
 use borrow.Author.Needs.{needs}
-use Rattle.words.proofs.Offsets.{weight, added-fits, added}
+use Rattle.words.proofs.Offsets.{weight, present, added-fits, added}
 use Rattle.words.proofs.compact.CompactWord.with.Needs as need
+
+pub returns-then-has : need.returns-then-has
+returns-then-has c = present (c .args .self .bits) (c .args .offset .number) (sym (c .if-has .ensures tt))
 
 pub add-result : need.add-result
 add-result c =

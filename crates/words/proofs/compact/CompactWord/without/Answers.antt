@@ -1,15 +1,15 @@
-use mathlib.Core.Path.{sym}
+use Prim.Native.Nat.{ℕ}
+use mathlib.Core.Path.{_≡_, subst, fun-ext}
+use mathlib.Core.Bool.{Bool, false}
 use native.Mathlib.Omega.{arith}
-use borrow.Author.Needs.{needs}
-use Rattle.words.proofs.Offsets.{taken-le, taken, alone}
+use Rattle.std.specs.Options.{Cases}
+use Rattle.words.specs.Layout.{Offsets, minus, minus-all}
+use Rattle.words.proofs.Offsets.{minus-one}
 use Rattle.words.proofs.compact.CompactWord.without.Needs as need
 
-pub sub-bits : need.sub-bits
-sub-bits c = taken-le (c .args .self .bits) (c .args .offset .number) (omega arith) (sym (c .if-not-has .ensures tt))
-
-pub returns-then-bits-lt281474976710656 : need.returns-then-bits-lt281474976710656
-returns-then-bits-lt281474976710656 c =
-    alone (c .args .self .bits) (c .args .offset .number) (omega arith) (sym (c .if-not-has .ensures tt)) (c .if-bits-lt281474976710656 .taken)
-
-pub returns-else-bits-lt281474976710656 : need.returns-else-bits-lt281474976710656
-returns-else-bits-lt281474976710656 c = taken (c .args .self .bits) (c .args .offset .number) (omega arith) (sym (c .if-not-has .ensures tt))
+pub returns : need.returns
+returns c =
+    let w = c .args .self .bits in
+    let o = c .args .offset .number in
+    subst (λ (f : ℕ → Bool). Cases (c .without-all .result) ((k : ℕ) → f k ≡ false) (λ v. Offsets w f (v .bits)))
+    (fun-ext (λ k. minus-one w o k (omega arith))) (c .without-all .ensures)
