@@ -1,4 +1,7 @@
-// Examples at the edges of the word formats: the expected words and answers are written out from the formats.
+// Examples at the edges of the word formats and of the lines that `wordread` takes: what is expected is written out from the formats.
+#[cfg(test)]
+mod lines;
+
 #[cfg(test)]
 mod tests {
     use std::test::*;

@@ -1,0 +1,5 @@
+pub mod Pieces
+pub mod Walk
+pub mod Numerals
+pub mod Queries
+pub mod Responses
