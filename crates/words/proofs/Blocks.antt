@@ -20,7 +20,7 @@ use Rattle.words.specs.Layout.{bit, block-of, offset-of, page-at, compact-word
 use Rattle.words.specs.Reading.{form-number, isWord, translation, said, held, read-as, reading}
 use Rattle.words.specs.Blocks.{Mapping, Used, Placed, Compact, mapped-offsets, BlockWord, page-word, StandsFor}
 use Rattle.words.proofs.Flip.{bit-le}
-use Rattle.words.proofs.Parts.{translation-is}
+use Rattle.words.proofs.Translations.{translation-is}
 
 offsets-lt : (m : Mapping) (b n : ℕ) → mapped-offsets m b n < 2 ^ n
 offsets-lt m b zero = omega arith

@@ -5,10 +5,10 @@ use mathlib.Core.Bool.{Bool, true, false, not, _&&_, _||_}
 use mathlib.Core.Logic.{_⊎_, inl, inr, ⊎-elim}
 use native.Mathlib.Omega.{arith}
 use native.Mathlib.Nat.{add-mul-div-right, one-mul, mul-comm, div-eq-of-lt, zero-div, zero-add, pow-suc}
-use lib.Bits.{bitAnd, and-shr, and-mod, and-mask, and-zero-r}
+use lib.Bits.{bitAnd, bitOr, and-shr, and-mod}
 use lib.Dec.{eqb}
 use Rattle.std.proofs.shelf.Tests.{cases-order, cases-lt, cases-bool, cases-eq, eqb-true, eqb-false, ne-eqb, eq-eqb}
-use Rattle.std.proofs.shelf.Bits.{pow-pos, pow-add, pow-below, shr-shr, and-le-l}
+use Rattle.std.proofs.shelf.Bits.{pow-pos, pow-add, pow-below, shr-shr, and-le-l, or-shr, or-mod}
 use Rattle.words.specs.Layout.{bit}
 
 at-o : (m o : ℕ) → (m + 2 ^ o) / 2 ^ o ≡ m / 2 ^ o + 1
@@ -48,13 +48,6 @@ bit-kept m o k h ne =
     let b = above-kept m o (k - o - 1) h in
     ap (λ (x : ℕ). eqb (x % 2) 1) (rw (← e) at b)))
     (cases-order k o)
-
-pub sum-fits : (m o : ℕ) → o < 16 → m < 2 ^ 16 → bit m o ≡ false → m + 2 ^ o < 2 ^ 16
-sum-fits m o lt f h =
-    let b = above-kept m o (15 - o) h in
-    let e : o + (1 + (15 - o)) ≡ 16 = omega arith in
-    let c : (m + 2 ^ o) / 2 ^ 16 ≡ m / 2 ^ 16 = rw e at b in
-    omega arith
 
 pub bit-le : (m o : ℕ) → bit m o ≡ true → 2 ^ o ≤ m
 bit-le m o h =
@@ -98,19 +91,19 @@ complement-bit (suc n) m (suc k) h l =
     let b = split m in
     ap (λ x. x % 2) a ∙ i ∙ ap (λ x. 1 - x % 2) (sym b)
 
-both : (x y : ℕ) → x < 2 → y < 2 → eqb (bitAnd x (1 - y)) 1 ≡ (eqb x 1 && not (eqb y 1))
-both zero zero p q = refl
-both zero (suc zero) p q = refl
-both (suc zero) zero p q = refl
-both (suc zero) (suc zero) p q = refl
-both (suc (suc x)) y p q = absurd (omega arith)
-both zero (suc (suc y)) p q = absurd (omega arith)
-both (suc zero) (suc (suc y)) p q = absurd (omega arith)
-
 -- n with the bits of m cleared
 pub cleared-bit : (n m k : ℕ) → n < 2 ^ 16 → m < 2 ^ 16 → bit (bitAnd n (2 ^ 16 - 1 - m)) k ≡ (bit n k && not (bit m k))
 cleared-bit n m k f g = ⊎-elim low high (cases-lt k 16)
   where
+    both : (x y : ℕ) → x < 2 → y < 2 → eqb (bitAnd x (1 - y)) 1 ≡ (eqb x 1 && not (eqb y 1))
+    both zero zero p q = refl
+    both zero (suc zero) p q = refl
+    both (suc zero) zero p q = refl
+    both (suc zero) (suc zero) p q = refl
+    both (suc (suc x)) y p q = absurd (omega arith)
+    both zero (suc (suc y)) p q = absurd (omega arith)
+    both (suc zero) (suc (suc y)) p q = absurd (omega arith)
+
     low : k < 16 → bit (bitAnd n (2 ^ 16 - 1 - m)) k ≡ (bit n k && not (bit m k))
     low l =
         ap (λ x. eqb x 1) (ap (λ x. x % 2) (and-shr n (2 ^ 16 - 1 - m) k) ∙ and-mod (n / 2 ^ k) ((2 ^ 16 - 1 - m) / 2 ^ k) 1 ∙ ap (bitAnd (n / 2 ^ k % 2)) (complement-bit 16 m k g l))
@@ -120,3 +113,18 @@ cleared-bit n m k f g = ⊎-elim low high (cases-lt k 16)
     high l =
         let a = and-le-l n (2 ^ 16 - 1 - m) in
         high-bit 16 k (bitAnd n (2 ^ 16 - 1 - m)) (omega arith) l ∙ sym (ap (λ x. x && not (bit m k)) (high-bit 16 k n f l))
+
+-- n with the bits of m set
+pub joined-bit : (n m k : ℕ) → bit (bitOr n m) k ≡ (bit n k || bit m k)
+joined-bit n m k =
+    ap (λ x. eqb x 1) (ap (λ x. x % 2) (or-shr n m k) ∙ or-mod (n / 2 ^ k) (m / 2 ^ k) 1)
+    ∙ both (n / 2 ^ k % 2) (m / 2 ^ k % 2) (omega arith) (omega arith)
+  where
+    both : (x y : ℕ) → x < 2 → y < 2 → eqb (bitOr x y) 1 ≡ (eqb x 1 || eqb y 1)
+    both zero zero p q = refl
+    both zero (suc zero) p q = refl
+    both (suc zero) zero p q = refl
+    both (suc zero) (suc zero) p q = refl
+    both (suc (suc x)) y p q = absurd (omega arith)
+    both zero (suc (suc y)) p q = absurd (omega arith)
+    both (suc zero) (suc (suc y)) p q = absurd (omega arith)

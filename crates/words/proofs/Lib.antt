@@ -1,6 +1,5 @@
-pub mod Parts
+pub mod Translations
 pub mod Flip
-pub mod Offsets
 pub mod Blocks
 pub mod WordLaws
 pub mod Worked

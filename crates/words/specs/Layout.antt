@@ -48,17 +48,13 @@ pub record Offsets (w : ℕ) (has : ℕ → Bool) (v : ℕ) : Type 0 where
   pub each : (k : ℕ) → bit (offsets-in v) k ≡ has k
   pub rest : v % 2 ^ 48 ≡ w % 2 ^ 48
 
--- the offsets of the word w and the offset o
+-- the offsets of the word w and those whose bits os has; 2 ^ o has just the bit of the offset o
 abbrev pub plus : ℕ → ℕ → ℕ → Bool
-plus w o k = bit (offsets-in w) k || eqb k o
-
--- the offsets of the word w without the offset o
-abbrev pub minus : ℕ → ℕ → ℕ → Bool
-minus w o k = bit (offsets-in w) k && not (eqb k o)
+plus w os k = bit (offsets-in w) k || bit os k
 
 -- the offsets of the word w without those whose bits os has
-abbrev pub minus-all : ℕ → ℕ → ℕ → Bool
-minus-all w os k = bit (offsets-in w) k && not (bit os k)
+abbrev pub minus : ℕ → ℕ → ℕ → Bool
+minus w os k = bit (offsets-in w) k && not (bit os k)
 
 -- parts that a compact word can have
 abbrev pub areParts : ℕ → ℕ → ℕ → Bool

@@ -92,4 +92,11 @@ impl Offset {
             None
         }
     }
+
+    // The number with just the offset's bit.
+    pub fn bit(self) -> u16
+        ensures { λ r. ⌜ r ≡ 2 ^ self .number ⌝ }
+    {
+        1 << self.number
+    }
 }

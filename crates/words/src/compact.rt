@@ -1,13 +1,14 @@
 // A compact word: up to sixteen pages of one block, properly placed in one frame block, with equal attributes.
 ghost use mathlib.Core.Path.{_≡_};
-ghost use mathlib.Core.Bool.{true, false};
-ghost use Prim.Native.Nat.{ℕ, _^_};
+ghost use mathlib.Core.Bool.{true, false, not, _&&_, _||_};
+ghost use Prim.Native.Nat.{ℕ, _^_, _<_, _≤_};
 ghost use Rattle.std.specs.Options.{Cases as BySome};
-ghost use Rattle.words.specs.Layout.{block-of, bit, compact-word, areParts, offsets-in, frame-block-in, attributes-in, isCompact, Offsets, plus, minus, minus-all};
+ghost use Rattle.words.specs.Layout.{block-of, bit, compact-word, areParts, offsets-in, frame-block-in, attributes-in, isCompact, Offsets, plus, minus};
 ghost use Rattle.words.specs.Made.{Made};
 ghost use Rattle.words.specs.Reading.{isPlaced, said};
 ghost use Rattle.words.specs.declared.form.Form.the-variants as shape;
 use crate::address::Offset;
+use crate::parts::translation_of;
 use crate::translation::Translation;
 
 #[derive(Clone, Copy)]
@@ -52,11 +53,7 @@ impl CompactWord {
         if !translation.properly_placed(offset) {
             return None;
         }
-        CompactWord::from_parts(
-            1 << offset.number,
-            translation.frame / 16,
-            translation.attributes,
-        )
+        CompactWord::from_parts(offset.bit(), translation.frame / 16, translation.attributes)
     }
 
     // One bit for each offset whose page is in the word, offset 0 in bit 0.
@@ -89,44 +86,61 @@ impl CompactWord {
         ensures { λ r. ⌜ r ≡ said shape.Compact (self .bits) (offset .number) ⌝ }
     {
         if self.has(offset) {
-            Some(Translation {
-                frame: self.frame_block() * 16 + u32::from(offset.number),
-                attributes: self.attributes(),
-            })
+            let frame = self.frame_block() * 16 + u32::from(offset.number);
+            Some(translation_of(frame, self.attributes()))
         } else {
             None
         }
     }
 
+    // The word with other offsets.
+    fn with_offsets(self, offsets: u16) -> CompactWord
+        requires { ⌜ 0 < offsets ⌝ }
+        ensures { λ r. ⌜ Offsets (self .bits) (bit offsets) (r .bits) ⌝ }
+    {
+        CompactWord {
+            bits: u64::from(offsets) * 0x1_0000_0000_0000 + self.bits % 0x1_0000_0000_0000,
+        }
+    }
+
     // The word with the page at an offset in it.
     pub fn with(self, offset: Offset) -> CompactWord
-        ensures { λ r. ⌜ Offsets (self .bits) (plus (self .bits) (offset .number)) (r .bits) ⌝ }
+        ensures { λ r. ⌜ Offsets (self .bits) (plus (self .bits) (2 ^ offset .number)) (r .bits) ⌝ }
     {
-        if self.has(offset) {
-            return self;
-        }
-        CompactWord {
-            bits: self.bits + (1u64 << offset.number) * 0x1_0000_0000_0000,
-        }
+        self.with_offsets(added(self.offsets(), offset.bit()))
     }
 
     // The word without the page at an offset; none where no other page is in it.
     pub fn without(self, offset: Offset) -> Option<CompactWord>
-        ensures { λ r. ⌜ BySome r ((k : ℕ) → minus (self .bits) (offset .number) k ≡ false) (λ w. Offsets (self .bits) (minus (self .bits) (offset .number)) (w .bits)) ⌝ }
+        ensures { λ r. ⌜ BySome r ((k : ℕ) → minus (self .bits) (2 ^ offset .number) k ≡ false) (λ w. Offsets (self .bits) (minus (self .bits) (2 ^ offset .number)) (w .bits)) ⌝ }
     {
-        self.without_all(1 << offset.number)
+        self.without_all(offset.bit())
     }
 
     // The word without the pages at the offsets whose bits are set; none where no other page is in it.
     pub fn without_all(self, offsets: u16) -> Option<CompactWord>
-        ensures { λ r. ⌜ BySome r ((k : ℕ) → minus-all (self .bits) offsets k ≡ false) (λ w. Offsets (self .bits) (minus-all (self .bits) offsets) (w .bits)) ⌝ }
+        ensures { λ r. ⌜ BySome r ((k : ℕ) → minus (self .bits) offsets k ≡ false) (λ w. Offsets (self .bits) (minus (self .bits) offsets) (w .bits)) ⌝ }
     {
-        let left = self.offsets() & !offsets;
+        let left = cleared(self.offsets(), offsets);
         if left == 0 {
             return None;
         }
-        Some(CompactWord {
-            bits: u64::from(left) * 0x1_0000_0000_0000 + self.bits % 0x1_0000_0000_0000,
-        })
+        Some(self.with_offsets(left))
     }
+}
+
+// The offsets and some more.
+fn added(offsets: u16, more: u16) -> u16
+    ensures each { λ r. ⌜ ((k : ℕ) → bit r k ≡ (bit offsets k || bit more k)) ⌝ }
+    ensures some { λ r. ⌜ more ≤ r ⌝ }
+{
+    offsets | more
+}
+
+// The offsets without those that are gone.
+fn cleared(offsets: u16, gone: u16) -> u16
+    ensures each { λ r. ⌜ ((k : ℕ) → bit r k ≡ (bit offsets k && not (bit gone k))) ⌝ }
+    ensures none { λ r. ⌜ (r ≡ 0 → (k : ℕ) → (bit offsets k && not (bit gone k)) ≡ false) ⌝ }
+{
+    offsets & !gone
 }

@@ -5,6 +5,7 @@ ghost use Rattle.words.specs.Layout.{full-word, isFull};
 ghost use Rattle.words.specs.Made.{Made};
 ghost use Rattle.words.specs.Reading.{said};
 ghost use Rattle.words.specs.declared.form.Form.the-variants as shape;
+use crate::parts::translation_of;
 use crate::translation::Translation;
 
 #[derive(Clone, Copy)]
@@ -50,9 +51,8 @@ impl FullWord {
         if self.bits == 0 {
             return None;
         }
-        Some(Translation {
-            frame: (self.bits / 0x1000 % 0x1000_0000) as u32,
-            attributes: (self.bits % 0x1000) as u16,
-        })
+        let frame = (self.bits / 0x1000 % 0x1000_0000) as u32;
+        let attributes = (self.bits % 0x1000) as u16;
+        Some(translation_of(frame, attributes))
     }
 }

@@ -6,6 +6,7 @@ mod fault;
 mod form;
 mod full;
 mod laws;
+mod parts;
 mod reader;
 mod translation;
 mod word;
