@@ -1,0 +1,31 @@
+// TLBs that are filled in software.
+mod entry;
+mod hand;
+mod one_page;
+mod one_page_slot;
+mod one_page_tlb;
+mod partial;
+mod partial_slot;
+mod partial_tlb;
+mod search;
+mod slot;
+mod tlb;
+mod two_level;
+
+pub use entry::Entry;
+pub use hand::Hand;
+pub use one_page::OnePageTlb;
+pub use one_page_slot::OnePageSlot;
+pub use one_page_slot::OnePageSlotSlot;
+pub use one_page_tlb::OnePageTlbTlb;
+pub use partial::PartialSubblockTlb;
+pub use partial_slot::PartialSlot;
+pub use partial_slot::PartialSlotSlot;
+pub use partial_tlb::PartialSubblockTlbTlb;
+pub use search::find;
+pub use search::place;
+pub use search::purge;
+pub use slot::Slot;
+pub use tlb::Tlb;
+pub use two_level::TwoLevelTlb;
+pub use two_level::TwoLevelTlbTlb;
