@@ -2,8 +2,7 @@
  * The word reader, for a TLB miss handler.
  *
  * joistolive_read_word answers, for a mapping word and the offset of a page in its block of sixteen,
- * the frame and the attributes of that page.  It takes any three numbers and always returns; it reads
- * and writes no memory.
+ * the frame and the attributes of that page.  It takes any three numbers, and always returns.
  *
  *   form    1: compact word, 2: full word
  *   word    the mapping word

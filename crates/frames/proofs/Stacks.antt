@@ -8,7 +8,7 @@ use native.Mathlib.Omega.{arith}
 use lib.Dec.{eqb, ltb, leb, leb·zero}
 use lib.ListN.{length, getD, set, replicate}
 use Rattle.std.proofs.shelf.Lists.{getD-set-same, getD-set-other}
-use Rattle.std.proofs.shelf.Tests.{cases-eq, cases-lt, cases-bool, eq-eqb, ne-eqb, eqb-true, lt-ltb, le-ltb, le-leb, leb-true, lt-leb, ltb-true, and-from, and-parts, and-left, and-right, cases-order, cond-true, cond-false}
+use Rattle.std.proofs.shelf.Tests.{cases-eq, cases-lt, cases-bool, eq-eqb, ne-eqb, lt-ltb, le-ltb, le-leb, leb-true, lt-leb, ltb-true, and-from, and-parts, and-left, and-right, cases-order, cond-true, cond-false}
 use Rattle.words.specs.Points.{at}
 use Rattle.frames.specs.Lists.{stacked, rising, occurs, set-flags, due}
 

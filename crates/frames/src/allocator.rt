@@ -20,9 +20,9 @@ pub trait FrameAllocator {
         ensures takes { λ r. ⌜ Takes (meaning .stock) (meaning .out) (now (self .entry)) r (now (self .exit)) ⌝ }
         ensures stock { λ _. ⌜ meaning .stock (now (self .exit)) ≡ meaning .stock (now (self .entry)) ⌝ };
 
-    // Takes the frame back.
+    // The frame comes back in.
     fn free(&mut self, frame: u32) -> Result<(), FreeFault>
         ensures step { λ r. ⌜ meaning .freed (now (self .entry)) frame r (now (self .exit)) ⌝ }
-        ensures gives { λ r. ⌜ Gives (meaning .stock) (meaning .out) (now (self .entry)) frame r (now (self .exit)) ⌝ }
+        ensures gives { λ r. ⌜ Gives (meaning .out) (now (self .entry)) frame r (now (self .exit)) ⌝ }
         ensures stock { λ _. ⌜ meaning .stock (now (self .exit)) ≡ meaning .stock (now (self .entry)) ⌝ };
 }

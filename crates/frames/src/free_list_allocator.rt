@@ -1,5 +1,4 @@
 // The free list as a frame allocator.
-ghost use mathlib.Core.Path.{_≡_};
 ghost use Rattle.frames.specs.FreeList.{free-list, NewList};
 use crate::allocator::FrameAllocator;
 use crate::fault::AllocateFault;
@@ -25,7 +24,7 @@ impl FreeListAllocator {
     }
 }
 
-pub impl FrameAllocator for FreeListAllocator as FreeListFrames {
+pub impl FrameAllocator for FreeListAllocator as FreeListAllocatorFrameAllocator {
     ghost meaning = { free-list };
 
     // The page does not matter.

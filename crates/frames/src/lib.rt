@@ -13,4 +13,4 @@ pub use fault::FreeFault;
 pub use fault::FreeFaultDebug;
 pub use fault::FreeFaultPartialEq;
 pub use free_list::FreeListAllocator;
-pub use free_list_allocator::FreeListFrames;
+pub use free_list_allocator::FreeListAllocatorFrameAllocator;

@@ -5,7 +5,7 @@ use crate::fault::AllocateFault;
 use crate::fault::FreeFault;
 
 impl AllocateFault {
-    pub fn number(self) -> u8
+    pub fn number(self) -> u64
         ensures { λ r. ⌜ r ≡ allocate-number self ⌝ }
     {
         match self {
@@ -15,7 +15,7 @@ impl AllocateFault {
 }
 
 impl FreeFault {
-    pub fn number(self) -> u8
+    pub fn number(self) -> u64
         ensures { λ r. ⌜ r ≡ free-number self ⌝ }
     {
         match self {

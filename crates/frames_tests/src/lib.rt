@@ -9,7 +9,7 @@ mod tests {
     use frames::FreeFaultDebug;
     use frames::FreeFaultPartialEq;
     use frames::FreeListAllocator;
-    use frames::FreeListFrames;
+    use frames::FreeListAllocatorFrameAllocator;
     use std::test::*;
     use words::Page;
 

@@ -1,12 +1,12 @@
 -- What a slot for pages of one block holds after some of its offsets are cleared.
-use Prim.Native.Nat.{ℕ, _+_, _*_, _/_, _%_, _^_, _<_}
-use mathlib.Core.Path.{_≡_, refl, sym, ap, ap₂, _∙_, subst}
+use Prim.Native.Nat.{ℕ, _+_, _*_, _/_, _%_, _^_}
+use mathlib.Core.Path.{_≡_, refl, sym, ap, ap₂, _∙_}
 use mathlib.Core.Bool.{Bool, true, false, cond, not, _&&_}
-use mathlib.Core.Logic.{_⊎_, inl, inr, ⊎-elim}
+use mathlib.Core.Logic.{_⊎_, ⊎-elim}
 use native.Mathlib.Omega.{arith}
 use lib.Bits.{bitAnd, and-shr, and-mod, and-mask}
 use lib.Dec.{eqb}
-use Rattle.std.proofs.shelf.Tests.{cases-bool, both-ways, eqb-true, eqb-false, eq-eqb, ne-eqb, and-parts, and-from, and-left, not-false, cond-true, cond-false}
+use Rattle.std.proofs.shelf.Tests.{cases-bool, both-ways, eqb-true, eqb-false, eq-eqb, ne-eqb, and-parts, and-from, not-false, cond-true, cond-false}
 use Rattle.std.specs.Orderings.{When}
 use Rattle.std.specs.declared.option.Option.{Option}
 use Rattle.std.specs.declared.option.Option.the-variants.{Some, None}
@@ -17,7 +17,7 @@ use Rattle.words.specs.Reading.{translation, said}
 use Rattle.words.proofs.Flip.{one-bit}
 use Rattle.tlb.specs.declared.partial_slot.PartialSlot.{PartialSlot}
 use Rattle.tlb.specs.declared.partial_slot.PartialSlot.the-variants.{Empty, Subblock, Single}
-use Rattle.tlb.specs.PartialSlots.{block-held, overlaps, Left, Loses, Cleared, block-dropped}
+use Rattle.tlb.specs.PartialSlots.{block-held, overlaps, Loses, Cleared, block-dropped}
 use Rattle.tlb.specs.Slots.{without-page}
 
 -- the pages of the block b at the offsets whose bits os has

@@ -1,15 +1,14 @@
 -- The one-page TLB: what a load, a purge and a flush leave.
 use Prim.Native.Nat.{ℕ, _<_, _≤_}
-use mathlib.Core.Path.{_≡_, refl, sym, ap, _∙_, subst}
+use mathlib.Core.Path.{_≡_, refl, ap, _∙_}
 use mathlib.Core.Bool.{Bool, true, false, cond}
 use mathlib.Core.List.{List}
 use mathlib.Core.Logic.{_⊎_, inl, inr, ⊎-elim}
 use native.Mathlib.Omega.{arith}
 use lib.Dec.{eqb}
 use lib.ListN.{length, getD, set}
-use Rattle.std.proofs.shelf.Tests.{cases-bool, eqb-true, eq-eqb, cond-true, cond-false}
-use Rattle.std.specs.Options.{Cases, isSome}
-use Rattle.std.specs.declared.option.Option.{Option}
+use Rattle.std.proofs.shelf.Tests.{cases-bool, eqb-true, eq-eqb, cond-true}
+use Rattle.std.specs.Options.{isSome}
 use Rattle.std.specs.declared.option.Option.the-variants.{Some, None}
 use Rattle.words.specs.declared.address.Page.{Page}
 use Rattle.words.specs.declared.translation.Translation.{Translation}
@@ -18,8 +17,8 @@ use Rattle.tlb.specs.declared.one_page_slot.OnePageSlot.{OnePageSlot}
 use Rattle.tlb.specs.declared.one_page_slot.OnePageSlot.the-variants.{Empty, Held}
 use Rattle.tlb.specs.Entries.{entry-says}
 use Rattle.tlb.specs.OnePageSlots.{page-held}
-use Rattle.tlb.specs.Slots.{Holds, holders, first-place, Each, without-page}
-use Rattle.tlb.proofs.Rows.{one, same-some, tested, placed-by, free-single, over-single, set-has, set-only, set-pair, Shrunk, shrunk-pair, shrunk-holders, no-pair}
+use Rattle.tlb.specs.Slots.{Holds, holders, first-place}
+use Rattle.tlb.proofs.Rows.{one, same-some, placed-by, free-single, over-single, set-has, set-only, set-pair}
 
 -- a slot that holds a page holds no other
 held-is : (p : Page) (t : Translation) (q : ℕ) (x : Translation) → page-held (Held p t) q ≡ Some x → (q ≡ p .number) × (t ≡ x)

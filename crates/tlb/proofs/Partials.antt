@@ -1,7 +1,7 @@
 -- The partial-subblock TLB: what a load leaves.
-use Prim.Native.Nat.{ℕ, _^_, _<_, _≤_}
+use Prim.Native.Nat.{ℕ, _<_, _≤_}
 use mathlib.Core.Path.{_≡_, refl, sym, ap, _∙_, subst}
-use mathlib.Core.Bool.{Bool, true, false, cond, _&&_}
+use mathlib.Core.Bool.{Bool, true, false, cond}
 use mathlib.Core.List.{List}
 use mathlib.Core.Logic.{_⊎_, inl, inr, ⊎-elim}
 use native.Mathlib.Omega.{arith}
@@ -19,7 +19,7 @@ use Rattle.words.specs.declared.form.Form.the-variants as form
 use Rattle.words.specs.declared.word.Word.{Word}
 use Rattle.words.specs.declared.word.Word.the-variants.{Compact, Full}
 use Rattle.words.specs.Layout.{bit, block-of, offset-of, offsets-in}
-use Rattle.words.specs.Reading.{form-number, isWord, held, said, reading}
+use Rattle.words.specs.Reading.{form-number, isWord, answer-of, said, reading}
 use Rattle.words.specs.Words.{form-of, bits-of}
 use Rattle.words.proofs.Blocks.{sound-reading}
 use Rattle.tlb.specs.declared.entry.Entry.{Entry}
@@ -29,22 +29,22 @@ use Rattle.tlb.specs.Entries.{reaches, entry-says, word-offsets, entry-offsets
 use Rattle.tlb.specs.PartialSlots.{block-held, overlaps, Loses, Cleared, IsSlot}
 use Rattle.tlb.specs.Slots.{Holds, holders, Each}
 use Rattle.tlb.proofs.Clearing.{names, one-page, cleared}
-use Rattle.tlb.proofs.Rows.{one, same-some, free-single, over-single, set-has, set-only, set-pair, Shrunk, shrunk-pair, shrunk-holders}
+use Rattle.tlb.proofs.Rows.{one, free-single, over-single, set-has, set-only, set-pair, Shrunk, shrunk-pair, shrunk-holders}
 
 -- what a word at the page p says of the page q, as an entry has it
 abbrev says : Word → ℕ → ℕ → Option Translation
 says w p q = cond (reaches (form-of w) p q) (okPart (reading (form-number (form-of w)) (bits-of w) (offset-of q))) None
 
-ok-held : (x : Option Translation) → okPart (held x) ≡ x
-ok-held None = refl
-ok-held (Some t) = refl
+ok-answer : (x : Option Translation) → okPart (answer-of x) ≡ x
+ok-answer None = refl
+ok-answer (Some t) = refl
 
 sound : (w : Word) → isWord (form-of w) (bits-of w) ≡ true
 sound (Compact c) = c .sound
 sound (Full f) = f .sound
 
 says-said : (w : Word) (p q : ℕ) → says w p q ≡ cond (reaches (form-of w) p q) (said (form-of w) (bits-of w) (offset-of q)) None
-says-said w p q = ap (λ x. cond (reaches (form-of w) p q) x None) (ap okPart (sound-reading (form-of w) (bits-of w) (offset-of q) (sound w) (omega arith)) ∙ ok-held (said (form-of w) (bits-of w) (offset-of q)))
+says-said w p q = ap (λ x. cond (reaches (form-of w) p q) x None) (ap okPart (sound-reading (form-of w) (bits-of w) (offset-of q) (sound w) (omega arith)) ∙ ok-answer (said (form-of w) (bits-of w) (offset-of q)))
 
 kept : (b : Bool) (x : Option Translation) (t : Translation) → cond b x None ≡ Some t → (b ≡ true) × (x ≡ Some t)
 kept true x t e = (refl, e)

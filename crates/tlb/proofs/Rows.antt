@@ -21,9 +21,6 @@ none-some x e = let z : _≡_ {A = ℕ} 0 1 = cc in omega arith
 pub same-some : {X : Type 0} (x y : X) → Some x ≡ Some y → x ≡ y
 same-some x y e = cc
 
-pub tested : {X : Type 0} (o : Option X) (x : X) → o ≡ Some x → isSome o ≡ true
-tested o x e = ap isSome e
-
 -- what is said by cases, at a known case
 pub at-some : {X : Type 0} (o : Option X) (x : X) (A : Type 0) (B : X → Type 0) → Some x ≡ o → B x → Cases o A B
 at-some o x A B e b = subst (λ y. Cases y A B) e b

@@ -15,9 +15,6 @@ pub record Upto {S : Type 0} (R : S → S → Type 0) (xs ys : List S) (i : ℕ)
   pub below : (k : ℕ) (d : S) → k < i → R (getD xs k d) (getD ys k d)
   pub above : (k : ℕ) (d : S) → i ≤ k → getD ys k d ≡ getD xs k d
 
-pub upto-none : {S : Type 0} (R : S → S → Type 0) (xs : List S) → Upto R xs xs 0
-upto-none R xs = record { long = cc; below = λ k d h. absurd (omega arith); above = λ k d h. cc }
-
 -- one more element, lent from place i, came back as y; x is the default at which the loan reads it
 pub upto-more : {S : Type 0} (R : S → S → Type 0) (xs ys : List S) (i : ℕ) (x y : S) → i < length ys → R (getD ys i x) y → Upto R xs ys i → Upto R xs (set ys i y) (i + 1)
 upto-more R xs ys i x y l r u = record {

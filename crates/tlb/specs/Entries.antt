@@ -13,7 +13,7 @@ use Rattle.words.specs.Reading.{form-number, reading}
 use Rattle.words.specs.Words.{form-of, bits-of}
 use Rattle.tlb.specs.declared.entry.Entry.{Entry}
 
--- the pages that a word of a form at the page p speaks of: the block of p, or p alone
+-- the pages that a word of a form at the page p may speak of: the block of p, or p alone
 abbrev pub reaches : Form → ℕ → ℕ → Bool
 reaches form.Compact p q = eqb (block-of q) (block-of p)
 reaches form.Full p q = eqb q p
@@ -22,7 +22,7 @@ reaches form.Full p q = eqb q p
 abbrev pub entry-says : Entry → ℕ → Option Translation
 entry-says e q = cond (reaches (form-of (e .word)) (e .page .number) q) (okPart (reading (form-number (form-of (e .word))) (bits-of (e .word)) (offset-of q))) None
 
--- the offsets that a word of a form at the page p speaks of, one bit each
+-- the offsets of a word of a form at the page p, one bit each: those of a compact word, or that of p
 abbrev pub word-offsets : Form → ℕ → ℕ → ℕ
 word-offsets form.Compact p w = offsets-in w
 word-offsets form.Full p w = 2 ^ offset-of p

@@ -3,9 +3,7 @@ use Prim.Native.Nat.{ℕ}
 use mathlib.Core.Path.{_≡_}
 use lib.ListN.{set, replicate}
 use Rattle.std.specs.Options.{Cases}
-use Rattle.std.specs.declared.option.Option.{Option}
 use Rattle.words.specs.declared.translation.Translation.{Translation}
-use Rattle.tlb.specs.declared.entry.Entry.{Entry}
 use Rattle.tlb.specs.declared.one_page.OnePageTlb.{OnePageTlb}
 use Rattle.tlb.specs.declared.one_page_slot.OnePageSlot.{OnePageSlot}
 use Rattle.tlb.specs.declared.one_page_slot.OnePageSlot.the-variants.{Empty, Held}

@@ -1,10 +1,8 @@
 -- What the partial-subblock TLB means, by its slots and its hand.
-use Prim.Native.Nat.{ℕ}
 use mathlib.Core.Path.{_≡_}
 use mathlib.Core.List.{List}
 use lib.ListN.{set, replicate}
 use Rattle.std.specs.Options.{Cases}
-use Rattle.std.specs.declared.option.Option.{Option}
 use Rattle.words.specs.Layout.{block-of}
 use Rattle.tlb.specs.declared.entry.Entry.{Entry}
 use Rattle.tlb.specs.declared.partial.PartialSubblockTlb.{PartialSubblockTlb}

@@ -1,7 +1,7 @@
 -- Slots in a row, by what each holds, and the hand that goes round them.
 use Prim.Native.Nat.{ℕ, suc, _+_, _<_}
 use mathlib.Core.Path.{_≡_}
-use mathlib.Core.Bool.{Bool, cond}
+use mathlib.Core.Bool.{cond}
 use mathlib.Core.List.{List, [], _∷_}
 use mathlib.Core.Logic.{_⊎_}
 use lib.Dec.{eqb}
@@ -10,6 +10,7 @@ use Rattle.std.specs.Options.{isSome, mapped}
 use Rattle.std.specs.declared.option.Option.{Option}
 use Rattle.std.specs.declared.option.Option.the-variants.{Some, None}
 use Rattle.words.specs.declared.translation.Translation.{Translation}
+use Rattle.words.specs.Points.{at}
 
 -- the slot after the hand's: 63 is followed by 0
 abbrev pub next-slot : ℕ → ℕ
@@ -17,7 +18,7 @@ next-slot h = cond (eqb h 63) 0 (h + 1)
 
 -- what is left of what a slot holds when the page p is gone
 abbrev pub without-page : (ℕ → Option Translation) → ℕ → ℕ → Option Translation
-without-page f p q = cond (eqb q p) None (f q)
+without-page f p = at f p None
 
 -- each element of ys comes from that of xs at its place
 abbrev pub Each : {S : Type 0} → (S → S → Type 0) → List S → List S → Type 0

@@ -27,7 +27,7 @@ impl Entry {
         }
     }
 
-    // One bit for each offset that the entry speaks of.
+    // One bit for each offset of a compact word, or the bit of a full word's page.
     pub fn offsets(self) -> u16
         ensures { λ r. ⌜ r ≡ entry-offsets self ⌝ }
     {

@@ -1,10 +1,12 @@
 // A slot for pages of one block.
 ghost use mathlib.Core.Path.{_≡_};
+ghost use Rattle.words.specs.Layout.{bit};
 ghost use Rattle.tlb.specs.PartialSlots.{block-held, block-dropped, overlaps, Loses, IsSlot};
 use crate::entry::Entry;
 use crate::slot::Slot;
 use words::Block;
 use words::CompactWord;
+use words::Offset;
 use words::Page;
 use words::Translation;
 use words::Word;
@@ -22,6 +24,13 @@ pub enum PartialSlot {
         page: Page,
         translation: Translation,
     },
+}
+
+// Whether the bit of an offset is set.
+fn has(offsets: u16, offset: Offset) -> bool
+    ensures { λ r. ⌜ r ≡ bit offsets (offset .number) ⌝ }
+{
+    (offsets >> offset.number) % 2 == 1
 }
 
 impl PartialSlot {
@@ -47,7 +56,7 @@ impl PartialSlot {
             PartialSlot::Subblock { block: own, word } => own.number == block.number
                 && word.offsets() & offsets != 0,
             PartialSlot::Single { page, .. } => page.block().number == block.number
-                && (offsets >> page.offset().number) % 2 == 1,
+                && has(offsets, page.offset()),
         }
     }
 
@@ -65,7 +74,7 @@ impl PartialSlot {
                 };
             }
             PartialSlot::Single { page, .. } => {
-                if (offsets >> page.offset().number) % 2 == 1 {
+                if has(offsets, page.offset()) {
                     *self = PartialSlot::Empty;
                 }
             }

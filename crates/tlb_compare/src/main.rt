@@ -68,7 +68,7 @@ fn report(rt: &LibcRuntime, name: &str, outcome: Result<u32, Stop>) -> Result<()
         }
         Err(stop) => {
             println!(rt, "{name}: {stop}")?;
-            Err("a TLB and its model differ".into())
+            Err("the comparison stopped".into())
         }
     }
 }

@@ -1,24 +1,22 @@
 -- The words of a map, read back.
-use mathlib.Core.Path.{_≡_, refl, sym, ap, ap₂, _∙_, subst}
+use mathlib.Core.Path.{_≡_, refl, sym, ap, ap₂, _∙_}
 use mathlib.Core.Bool.{Bool, true, false, cond, _&&_}
-use mathlib.Core.Logic.{_⊎_, inl, inr, ⊎-elim}
-use Prim.Native.Nat.{ℕ, zero, suc, _+_, _-_, _*_, _/_, _%_, _^_, _<_, _≤_}
+use mathlib.Core.Logic.{_⊎_, ⊎-elim}
+use Prim.Native.Nat.{ℕ, zero, suc, _+_, _-_, _*_, _/_, _%_, _^_, _<_}
 use native.Mathlib.Omega.{arith}
 use native.Mathlib.Nat.{pow-suc, add-div-right, add-mul-div-right, div-eq-of-lt}
 use lib.Dec.{eqb, ltb, leb}
 use Rattle.std.proofs.shelf.Bits.{pow-pos, pow-add}
-use Rattle.std.proofs.shelf.Tests.{cases-lt, cases-bool, eq-eqb, ne-eqb, eqb-true, lt-ltb, ltb-true, le-leb, and-from, and-parts, or-right, cond-true, cond-false}
+use Rattle.std.proofs.shelf.Tests.{cases-lt, eq-eqb, ne-eqb, lt-ltb, le-leb, and-from, or-right, cond-true, cond-false}
 use Rattle.std.specs.Options.{isSome}
 use Rattle.std.specs.declared.option.Option.{Option}
 use Rattle.std.specs.declared.option.Option.the-variants.{Some, None}
-use Rattle.std.specs.declared.result.Result.{Result}
-use Rattle.words.specs.declared.fault.ReadFault.{ReadFault}
 use Rattle.words.specs.declared.translation.Translation.{Translation}
 use Rattle.words.specs.declared.form.Form.{Form}
 use Rattle.words.specs.declared.form.Form.the-variants as form
 use Rattle.words.specs.Layout.{bit, block-of, offset-of, page-at, compact-word, full-word, offsets-in, frame-block-in, attributes-in, frame-in, isCompact, isFull}
-use Rattle.words.specs.Reading.{form-number, isWord, translation, said, held, read-as, reading}
-use Rattle.words.specs.Blocks.{Mapping, Used, Placed, Compact, mapped-offsets, BlockWord, page-word, StandsFor}
+use Rattle.words.specs.Reading.{form-number, isWord, translation, said, answer-of, reading}
+use Rattle.words.specs.Blocks.{Mapping, Used, Placed, Compact, mapped-offsets, BlockWord, page-word}
 use Rattle.words.proofs.Flip.{bit-le}
 use Rattle.words.proofs.Translations.{translation-is}
 
@@ -93,7 +91,7 @@ module _ (f a : ℕ) (h : f < 2 ^ 28) (j : a < 2 ^ 12) where
       or-right (eqb (full-word f a) 0) _ (eq-eqb _ _ (omega arith))
 
 -- reading what is a word of its form
-pub sound-reading : (g : Form) (w o : ℕ) → isWord g w ≡ true → o < 16 → reading (form-number g) w o ≡ held (said g w o)
+pub sound-reading : (g : Form) (w o : ℕ) → isWord g w ≡ true → o < 16 → reading (form-number g) w o ≡ answer-of (said g w o)
 sound-reading form.Compact w o s h = cond-true (isCompact w && leb o 15) _ _ (and-from (isCompact w) _ s (le-leb o 15 (omega arith)))
 sound-reading form.Full w o s h = cond-true (isFull w && leb o 15) _ _ (and-from (isFull w) _ s (le-leb o 15 (omega arith)))
 
@@ -108,8 +106,8 @@ page-sound : (x : Option Translation) → isFull (page-word x) ≡ true
 page-sound None = refl
 page-sound (Some t) = full-sound (t .frame) (t .attributes) (t .frames) (t .bits)
 
-pub full-reading : (m : Mapping) (p o : ℕ) → o < 16 → reading 2 (page-word (m p)) o ≡ held (m p)
-full-reading m p o h = sound-reading form.Full (page-word (m p)) o (page-sound (m p)) h ∙ ap held (full-says (m p) o)
+pub full-reading : (m : Mapping) (p o : ℕ) → o < 16 → reading 2 (page-word (m p)) o ≡ answer-of (m p)
+full-reading m p o h = sound-reading form.Full (page-word (m p)) o (page-sound (m p)) h ∙ ap answer-of (full-says (m p) o)
 
 -- what all mapped pages of a block share is in range
 ranged-parts : (m : Mapping) (b k a : ℕ) → Used m b → Placed m b k a → (k < 2 ^ 24) × (a < 2 ^ 12)
@@ -135,10 +133,10 @@ compact-says m b k a o placed i j h =
     each None p e = refl
     each (Some t) p e = let (c, d, l) = p t h refl in ap Some (e ∙ placed-is o k a t c d l)
 
-pub compact-reading : (m : Mapping) (b w o : ℕ) → BlockWord m b w → o < 16 → reading 1 w o ≡ held (m (page-at b o))
+pub compact-reading : (m : Mapping) (b w o : ℕ) → BlockWord m b w → o < 16 → reading 1 w o ≡ answer-of (m (page-at b o))
 compact-reading m b w o (used, (k, a, placed, e)) h =
     let (i, j) = ranged-parts m b k a used placed in
     let os : ℕ = mapped-offsets m b 16 in
     ap (λ x. reading 1 x o) e
     ∙ sound-reading form.Compact (compact-word os k a) o (compact-sound os k a i j (used-offsets m b used)) h
-    ∙ ap held (compact-says m b k a o placed i j h)
+    ∙ ap answer-of (compact-says m b k a o placed i j h)

@@ -1,13 +1,13 @@
 -- Bits of numbers: one set, some cleared.
 use Prim.Native.Nat.{ℕ, zero, suc, _+_, _-_, _*_, _/_, _%_, _^_, _<_, _≤_}
 use mathlib.Core.Path.{_≡_, refl, sym, ap, ap₂, _∙_}
-use mathlib.Core.Bool.{Bool, true, false, not, _&&_, _||_}
-use mathlib.Core.Logic.{_⊎_, inl, inr, ⊎-elim}
+use mathlib.Core.Bool.{true, false, not, _&&_, _||_}
+use mathlib.Core.Logic.{_⊎_, ⊎-elim}
 use native.Mathlib.Omega.{arith}
 use native.Mathlib.Nat.{add-mul-div-right, one-mul, mul-comm, div-eq-of-lt, zero-div, zero-add, pow-suc}
 use lib.Bits.{bitAnd, bitOr, and-shr, and-mod}
 use lib.Dec.{eqb}
-use Rattle.std.proofs.shelf.Tests.{cases-order, cases-lt, cases-bool, cases-eq, eqb-true, eqb-false, ne-eqb, eq-eqb}
+use Rattle.std.proofs.shelf.Tests.{cases-order, cases-lt, cases-eq, eqb-true, eqb-false, ne-eqb, eq-eqb}
 use Rattle.std.proofs.shelf.Bits.{pow-pos, pow-add, pow-below, shr-shr, and-le-l, or-shr, or-mod}
 use Rattle.words.specs.Layout.{bit}
 

@@ -1,34 +1,32 @@
 -- The laws of the reader and of the words.
 use mathlib.Core.Path.{_≡_, refl, sym, ap, ap₂, _∙_, subst}
-use mathlib.Core.Bool.{Bool, true, false, cond, _&&_}
-use mathlib.Core.Logic.{_⊎_, inl, inr, ⊎-elim}
-use Prim.Native.Nat.{ℕ, _+_, _*_, _/_, _%_, _^_, _<_, _≤_}
+use mathlib.Core.Bool.{true, false, _&&_}
+use mathlib.Core.Logic.{_⊎_, ⊎-elim}
+use Prim.Native.Nat.{ℕ, _^_, _<_}
 use native.Mathlib.Omega.{arith}
 use lib.Dec.{eqb, leb}
-use Rattle.std.proofs.shelf.Tests.{cases-bool, cases-eq, eq-eqb, ne-eqb, and-left, cond-true, cond-false}
+use Rattle.std.proofs.shelf.Tests.{cases-bool, cases-eq, ne-eqb, and-left, cond-false}
 use Rattle.std.specs.declared.option.Option.{Option}
 use Rattle.std.specs.declared.option.Option.the-variants.{Some, None}
-use Rattle.std.specs.declared.result.Result.{Result}
-use Rattle.std.specs.declared.result.Result.the-variants.{Ok, Err}
-use Rattle.words.specs.declared.fault.ReadFault.{ReadFault}
-use Rattle.words.specs.declared.fault.ReadFault.the-variants.{BadWord, NotMapped}
+use Rattle.std.specs.declared.result.Result.the-variants.{Err}
+use Rattle.words.specs.declared.fault.ReadFault.the-variants.{BadWord}
 use Rattle.words.specs.declared.translation.Translation.{Translation}
 use Rattle.words.specs.declared.form.Form.{Form}
 use Rattle.words.specs.declared.form.Form.the-variants as form
 use Rattle.words.specs.declared.word.Word.{Word}
 use Rattle.words.specs.declared.word.Word.the-variants.{Compact as CompactValue, Full as FullValue}
 use Rattle.words.specs.Layout.{block-of, offset-of, page-at, compact-word, isCompact, isFull}
-use Rattle.words.specs.Reading.{form-number, isWord, said, held, reading, answer-number}
+use Rattle.words.specs.Reading.{form-number, isWord, said, answer-of, reading, answer-number}
 use Rattle.words.specs.Words.{form-of, bits-of}
-use Rattle.words.specs.Blocks.{Mapping, Used, Placed, mapped-offsets, BlockWord, page-word, StandsFor}
+use Rattle.words.specs.Blocks.{Mapping, Used, Placed, mapped-offsets, StandsFor}
 use Rattle.words.specs.Laws.{Tells, Accepts, IsValue, AcceptedAreValues, OneWord, SameWordSamePages}
 use Rattle.words.proofs.Blocks.{sound-reading, full-reading, compact-reading}
 
 own-page : (p : ℕ) → page-at (block-of p) (offset-of p) ≡ p
 own-page p = omega arith
 
-stands-reading : (m : Mapping) (p : ℕ) (g : Form) (w : ℕ) → StandsFor m p g w → reading (form-number g) w (offset-of p) ≡ held (m p)
-stands-reading m p form.Compact w s = compact-reading m (block-of p) w (offset-of p) s (omega arith) ∙ ap (λ q. held (m q)) (own-page p)
+stands-reading : (m : Mapping) (p : ℕ) (g : Form) (w : ℕ) → StandsFor m p g w → reading (form-number g) w (offset-of p) ≡ answer-of (m p)
+stands-reading m p form.Compact w s = compact-reading m (block-of p) w (offset-of p) s (omega arith) ∙ ap (λ q. answer-of (m q)) (own-page p)
 stands-reading m p form.Full w (n, e) = ap (λ x. reading 2 x (offset-of p)) e ∙ full-reading m p (offset-of p) (omega arith)
 
 pub tells : (f w o : ℕ) → Tells f w o (answer-number (reading f w o))
@@ -37,18 +35,18 @@ tells f w o = record {
   neighbours = λ m p e s h. ap answer-number (ap (λ x. reading x w o) (sym e) ∙ compact-reading m (block-of p) w o s h);
 }
 
-held-bad : (x : Option Translation) → held x ≡ Err BadWord → ⊥
-held-bad (Some t) e = let z : _≡_ {A = ℕ} 0 1 = cc in omega arith
-held-bad None e = let z : _≡_ {A = ℕ} 0 1 = cc in omega arith
+never-bad : (x : Option Translation) → answer-of x ≡ Err BadWord → ⊥
+never-bad (Some t) e = let z : _≡_ {A = ℕ} 0 1 = cc in omega arith
+never-bad None e = let z : _≡_ {A = ℕ} 0 1 = cc in omega arith
 
-held-same : (x y : Option Translation) → held x ≡ held y → x ≡ y
-held-same (Some t) (Some u) e = cc
-held-same None None e = refl
-held-same (Some t) None e = absurd (let z : _≡_ {A = ℕ} 0 1 = cc in omega arith)
-held-same None (Some u) e = absurd (let z : _≡_ {A = ℕ} 0 1 = cc in omega arith)
+same-answer : (x y : Option Translation) → answer-of x ≡ answer-of y → x ≡ y
+same-answer (Some t) (Some u) e = cc
+same-answer None None e = refl
+same-answer (Some t) None e = absurd (let z : _≡_ {A = ℕ} 0 1 = cc in omega arith)
+same-answer None (Some u) e = absurd (let z : _≡_ {A = ℕ} 0 1 = cc in omega arith)
 
 value-accepted : (g : Form) (w : ℕ) → isWord g w ≡ true → Accepts (form-number g) w
-value-accepted g w s o h e = held-bad (said g w o) (sym (sound-reading g w o s h) ∙ e)
+value-accepted g w s o h e = never-bad (said g w o) (sym (sound-reading g w o s h) ∙ e)
 
 values : (v : Word) → Accepts (form-number (form-of v)) (bits-of v)
 values (CompactValue c) = value-accepted form.Compact (c .bits) (c .sound)
@@ -88,4 +86,4 @@ one-word m p form.Compact form.Full w v (_, (k, a, placed, _)) (n, _) = absurd (
 one-word m p form.Full form.Compact w v (n, _) (_, (k, a, placed, _)) = absurd (n (k, a, placed))
 
 pub same-word-same-pages : SameWordSamePages
-same-word-same-pages m n b w x y o h = held-same (m (page-at b o)) (n (page-at b o)) (sym (compact-reading m b w o x h) ∙ compact-reading n b w o y h)
+same-word-same-pages m n b w x y o h = same-answer (m (page-at b o)) (n (page-at b o)) (sym (compact-reading m b w o x h) ∙ compact-reading n b w o y h)

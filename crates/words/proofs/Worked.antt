@@ -1,7 +1,7 @@
 -- The worked values of the formats.
-use Prim.Native.Nat.{ℕ, _+_, _*_, _/_, _%_, _^_, _<_}
+use Prim.Native.Nat.{ℕ, _+_, _%_, _^_}
 use mathlib.Core.Path.{_≡_, refl, sym, ap, _∙_, subst, fun-ext}
-use mathlib.Core.Bool.{Bool, true, false, cond}
+use mathlib.Core.Bool.{true, false, cond}
 use mathlib.Core.Logic.{⊎-elim}
 use native.Mathlib.Omega.{arith}
 use lib.Dec.{eqb}
@@ -13,7 +13,7 @@ use Rattle.words.specs.declared.form.Form.the-variants as form
 use Rattle.words.specs.Points.{at}
 use Rattle.words.specs.Layout.{block-of, offset-of, page-at}
 use Rattle.words.specs.Reading.{translation}
-use Rattle.words.specs.Blocks.{Mapping, Placed, Compact, StandsFor}
+use Rattle.words.specs.Blocks.{Mapping, Placed, Compact}
 use Rattle.words.specs.Examples.{unmapped, single, whole, protected, restored, released, Examples}
 
 -- a page at the offset o is on that offset of the frame block k, with the attributes a
@@ -78,6 +78,7 @@ mixed (k, a, placed) =
 pub examples : Examples
 examples = record {
   low-address = (refl, refl, refl, refl);
+  top-page = refl;
   top-block = refl;
   top-place = (refl, refl);
   placed-page = ((1, omega arith, (translation 0x1001 3, refl)), (0x100, 3, single-placed, refl));
@@ -89,6 +90,9 @@ examples = record {
   one-released = ((2, omega arith, (translation 0x1002 3, refl)), (0x100, 3, released-placed, refl));
   read-there = refl;
   read-absent = refl;
-  no-offset-bit = refl;
-  no-top-bit = refl;
+  no-offset-bit = λ o. refl;
+  no-top-bit = λ o. refl;
+  zero-words = (refl, refl);
+  first-frame = refl;
+  whole-numbers = refl;
 }

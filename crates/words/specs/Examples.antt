@@ -3,7 +3,6 @@ use Prim.Native.Nat.{ℕ, _+_, _-_, _^_}
 use mathlib.Core.Path.{_≡_}
 use mathlib.Core.Bool.{cond, false}
 use lib.Dec.{eqb}
-use Rattle.std.specs.declared.option.Option.{Option}
 use Rattle.std.specs.declared.option.Option.the-variants.{Some, None}
 use Rattle.words.specs.declared.form.Form.the-variants as form
 use Rattle.words.specs.declared.access.Access.the-variants.{Write}
@@ -36,6 +35,7 @@ released = at restored 0x41 None
 
 pub record Examples : Type 0 where
   pub low-address : (page-of 0x41034 ≡ 0x41) × (block-of 0x41 ≡ 4) × (offset-of 0x41 ≡ 1) × (bucket-of 4 ≡ 4)
+  pub top-page : page-of (2 ^ 64 - 1) ≡ 2 ^ 52 - 1
   pub top-block : block-of (page-of (2 ^ 64 - 1)) ≡ 2 ^ 48 - 1
   pub top-place : (offset-of (page-of (2 ^ 64 - 1)) ≡ 15) × (bucket-of (2 ^ 48 - 1) ≡ 62)
   pub placed-page : StandsFor (single 0x1001) 0x41 form.Compact 0x0002000001000003
@@ -47,5 +47,8 @@ pub record Examples : Type 0 where
   pub one-released : StandsFor released 0x42 form.Compact 0xFFFD000001000003
   pub read-there : answer-number (reading 1 0x0002000001000003 1) ≡ 0x1001003
   pub read-absent : answer-number (reading 1 0x0002000001000003 2) ≡ 2 ^ 63 + 9
-  pub no-offset-bit : answer-number (reading 1 0x0000000001000003 1) ≡ 2 ^ 63 + 17
-  pub no-top-bit : answer-number (reading 2 0x0000000001000003 1) ≡ 2 ^ 63 + 17
+  pub no-offset-bit : (o : ℕ) → answer-number (reading 1 0x0000000001000003 o) ≡ 2 ^ 63 + 17
+  pub no-top-bit : (o : ℕ) → answer-number (reading 2 0x0000000001000003 o) ≡ 2 ^ 63 + 17
+  pub zero-words : (answer-number (reading 1 0 0) ≡ 2 ^ 63 + 17) × (answer-number (reading 2 0 0) ≡ 2 ^ 63 + 9)
+  pub first-frame : answer-number (reading 2 0x8000000000000000 0) ≡ 0
+  pub whole-numbers : answer-number (reading 257 0x0002000001000003 1) ≡ 2 ^ 63 + 17

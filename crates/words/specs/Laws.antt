@@ -7,16 +7,16 @@ use Rattle.words.specs.declared.form.Form.{Form}
 use Rattle.words.specs.declared.form.Form.the-variants as form
 use Rattle.words.specs.declared.word.Word.{Word}
 use Rattle.words.specs.Layout.{block-of, offset-of, page-at}
-use Rattle.words.specs.Reading.{form-number, reading, held, answer-number}
+use Rattle.words.specs.Reading.{form-number, reading, answer-of, answer-number}
 use Rattle.words.specs.Words.{form-of, bits-of}
 use Rattle.words.specs.Blocks.{Mapping, BlockWord, StandsFor}
 
 -- the reader's answer r at a form f, a word w and an offset o, whatever map and page the form and the word stand for
 pub record Tells (f w o r : ℕ) : Type 0 where
   -- at the page's own offset the answer is what the map has for the page
-  pub own : (m : Mapping) (p : ℕ) (g : Form) → form-number g ≡ f → StandsFor m p g w → offset-of p ≡ o → r ≡ answer-number (held (m p))
+  pub own : (m : Mapping) (p : ℕ) (g : Form) → form-number g ≡ f → StandsFor m p g w → offset-of p ≡ o → r ≡ answer-number (answer-of (m p))
   -- a compact word answers so for each page of the block
-  pub neighbours : (m : Mapping) (p : ℕ) → form-number form.Compact ≡ f → StandsFor m p form.Compact w → o < 16 → r ≡ answer-number (held (m (page-at (block-of p) o)))
+  pub neighbours : (m : Mapping) (p : ℕ) → form-number form.Compact ≡ f → StandsFor m p form.Compact w → o < 16 → r ≡ answer-number (answer-of (m (page-at (block-of p) o)))
 
 -- the reader takes w for a word of the form f
 abbrev pub Accepts : ℕ → ℕ → Type 0

@@ -1,5 +1,5 @@
 -- Where the parts of an address and of a mapping word stand, as quotients and remainders of plain numbers.
-use Prim.Native.Nat.{ℕ, _+_, _*_, _/_, _%_, _^_, _<_, _≤_}
+use Prim.Native.Nat.{ℕ, _+_, _*_, _/_, _%_, _^_}
 use mathlib.Core.Path.{_≡_}
 use mathlib.Core.Bool.{Bool, not, _&&_, _||_}
 use lib.Dec.{eqb, ltb}
@@ -14,7 +14,7 @@ block-of p = p / 16
 abbrev pub offset-of : ℕ → ℕ
 offset-of p = p % 16
 
--- the chain of the page table that a block belongs to
+-- which of the 64 chains of nodes of a page table a block belongs to
 abbrev pub bucket-of : ℕ → ℕ
 bucket-of b = (b + b / 64) % 64
 
@@ -56,7 +56,7 @@ plus w os k = bit (offsets-in w) k || bit os k
 abbrev pub minus : ℕ → ℕ → ℕ → Bool
 minus w os k = bit (offsets-in w) k && not (bit os k)
 
--- parts that a compact word can have
+-- parts that a compact word can have, where os has sixteen bits
 abbrev pub areParts : ℕ → ℕ → ℕ → Bool
 areParts os k a = ltb 0 os && (ltb k (2 ^ 24) && ltb a (2 ^ 12))
 

@@ -1,7 +1,6 @@
 -- What a mapping word says of the pages of its block.
-use Prim.Native.Nat.{ℕ, _+_, _*_, _/_, _%_, _^_, _<_, _≤_}
-use mathlib.Core.Path.{_≡_}
-use mathlib.Core.Bool.{Bool, true, false, cond, _&&_, _||_}
+use Prim.Native.Nat.{ℕ, _+_, _*_, _%_, _^_, _<_}
+use mathlib.Core.Bool.{Bool, cond, _&&_}
 use native.Mathlib.Nat.{mod-lt}
 use lib.Dec.{eqb, leb, lit<}
 use Rattle.std.specs.declared.option.Option.{Option}
@@ -42,12 +41,12 @@ said form.Compact w o = cond (bit (offsets-in w) o) (Some (translation (frame-bl
 said form.Full w o = cond (eqb w 0) None (Some (translation (frame-in w) (attributes-in w)))
 
 -- what a word says as an answer: a page that is not in it is not mapped
-abbrev pub held : Option Translation → Result Translation ReadFault
-held (Some t) = Ok t
-held None = Err NotMapped
+abbrev pub answer-of : Option Translation → Result Translation ReadFault
+answer-of (Some t) = Ok t
+answer-of None = Err NotMapped
 
 abbrev pub read-as : Form → ℕ → ℕ → Result Translation ReadFault
-read-as f w o = cond (isWord f w && leb o 15) (held (said f w o)) (Err BadWord)
+read-as f w o = cond (isWord f w && leb o 15) (answer-of (said f w o)) (Err BadWord)
 
 -- the word reader: form 1 is compact and form 2 full, and there is no other
 abbrev pub reading : ℕ → ℕ → ℕ → Result Translation ReadFault

@@ -1,5 +1,4 @@
 use mathlib.Core.Path.{sym, ap, _∙_}
-use native.Mathlib.Omega.{arith}
 use Rattle.std.specs.declared.option.Option.the-variants.{Some, None}
 use Rattle.tlb.proofs.Rows.{placed-by}
 use Rattle.tlb.proofs.search.find.Needs as need

@@ -1,10 +1,10 @@
 use mathlib.Core.Path.{_≡_, sym, ap, _∙_}
-use Prim.Native.Nat.{_+_, _*_, _^_, _<_, _≤_}
+use Prim.Native.Nat.{_+_, _*_, _^_, _≤_}
 use native.Mathlib.Omega.{arith}
-use lib.ListN.{length, getD}
+use lib.ListN.{getD}
 use Rattle.std.specs.Text.{digitValue}
 use Rattle.std.proofs.shelf.Tests.{eqb-false}
-use Rattle.word_lines.proofs.Reading.{onward, from-start, one-more, none-here, none-after, none-left}
+use Rattle.word_lines.proofs.Reading.{from-start, one-more, none-here, none-after, none-left}
 use Rattle.word_lines.proofs.numeral.numeral.Needs as need
 
 pub loop-byte-holds : need.loop-byte-holds

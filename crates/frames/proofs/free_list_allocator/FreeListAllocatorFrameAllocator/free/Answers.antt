@@ -1,4 +1,4 @@
-use Prim.Native.Nat.{ℕ, _+_, _-_, _<_, _≤_}
+use Prim.Native.Nat.{ℕ, _+_, _-_, _<_}
 use mathlib.Core.Path.{_≡_, refl, sym, ap, _∙_}
 use mathlib.Core.Bool.{true, false, cond}
 use mathlib.Core.List.{List, _∷_, map}
@@ -7,7 +7,7 @@ use lib.ListN.{length, getD, set}
 use Rattle.words.specs.Points.{at}
 use Rattle.frames.specs.Lists.{stacked, occurs}
 use Rattle.frames.proofs.Stacks.{pushed, came, flag-set, flagged, flag-at, flag-written}
-use Rattle.frames.proofs.free_list_allocator.FreeListFrames.free.Needs as need
+use Rattle.frames.proofs.free_list_allocator.FreeListAllocatorFrameAllocator.free.Needs as need
 
 pub index-self-self : need.index-self-self
 index-self-self c =

@@ -1,15 +1,15 @@
 use Prim.Native.Nat.{ℕ, _+_, _-_, _<_}
 use mathlib.Core.Path.{_≡_, refl, sym, ap, _∙_}
 use mathlib.Core.Bool.{true, false, cond, _&&_}
-use mathlib.Core.List.{List, [], _∷_, map}
+use mathlib.Core.List.{[], _∷_, map}
 use native.Mathlib.Omega.{arith}
 use lib.Dec.{leb, ltb}
-use lib.ListN.{length, getD}
+use lib.ListN.{getD}
 use Rattle.words.specs.Points.{at}
 use Rattle.frames.specs.declared.free_list.FreeListAllocator.{FreeListAllocator}
 use Rattle.frames.specs.Lists.{stacked, occurs, due}
 use Rattle.frames.proofs.Stacks.{top, no-list, none-in, head-in, popped, flag-set, flagged, flag-at, in-stock, flag-written}
-use Rattle.frames.proofs.free_list_allocator.FreeListFrames.allocate.Needs as need
+use Rattle.frames.proofs.free_list_allocator.FreeListAllocatorFrameAllocator.allocate.Needs as need
 
 -- the list before, as its head and the rest
 due-before : (s : FreeListAllocator) → 0 < s .count → (i : ℕ) → occurs i (getD (s .list) (s .count - 1) 0 ∷ stacked (s .list) (s .count - 1)) ≡ due (s .out) i
