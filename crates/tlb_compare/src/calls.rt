@@ -1,5 +1,6 @@
 // The calls that are made, drawn from few enough pages that slots are taken over and blocks collide.
 ghost use Prim.Native.Nat.{_<_};
+ghost use Rattle.tlb_compare.specs.declared.calls.Call.the-variants.{Probe, Load, Purge, Flush};
 use crate::plain::COMPACT;
 use crate::plain::FULL;
 use crate::plain::PlainEntry;
@@ -14,7 +15,9 @@ pub enum Call {
 }
 
 impl Call {
-    pub fn draw(random: &mut Random) -> Call {
+    pub fn draw(random: &mut Random) -> Call
+        ensures { λ r. ⌜ elim r [ Probe page ↦ page < 384 | Load entry page ↦ page < 384 | Purge page ↦ page < 384 | Flush ↦ Unit {0} ] ⌝ }
+    {
         match random.below(1024) {
             0 => Call::Flush,
             1..=63 => Call::Purge(draw_page(random)),
@@ -32,7 +35,9 @@ fn draw_page(random: &mut Random) -> u64
 }
 
 // One entry in four is drawn for a page of its own, and mostly says nothing of the page.
-fn draw_load(random: &mut Random) -> Call {
+fn draw_load(random: &mut Random) -> Call
+    ensures { λ r. ⌜ elim r [ Probe page ↦ ⊥ | Load entry page ↦ page < 384 | Purge page ↦ ⊥ | Flush ↦ ⊥ ] ⌝ }
+{
     let page = draw_page(random);
     let own = if random.below(4) == 0 {
         draw_page(random)

@@ -1,5 +1,6 @@
 // What each TLB should do, over plain lists of pairs.
 ghost use mathlib.Core.Path.{_≡_};
+ghost use Rattle.std.specs.Of.Vec.{vec-len};
 use crate::pairs::PairList;
 use crate::plain::PlainEntry;
 use crate::plain::PlainPair;
@@ -22,7 +23,9 @@ pub struct OnePageModel {
 }
 
 impl OnePageModel {
-    pub fn new(heap: Global) -> OnePageModel {
+    pub fn new(heap: Global) -> OnePageModel
+        ensures { λ r. ⌜ (vec-len (r .pairs .held) ≡ 0) × (r .pairs .hand ≡ 0) ⌝ }
+    {
         OnePageModel {
             pairs: PairList::new(heap),
         }
@@ -62,7 +65,9 @@ pub struct PartialModel {
 }
 
 impl PartialModel {
-    pub fn new(heap: Global) -> PartialModel {
+    pub fn new(heap: Global) -> PartialModel
+        ensures { λ r. ⌜ (vec-len (r .pairs .held) ≡ 0) × (r .pairs .hand ≡ 0) ⌝ }
+    {
         PartialModel {
             pairs: PairList::new(heap),
         }

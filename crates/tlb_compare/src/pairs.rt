@@ -1,9 +1,11 @@
 // A TLB as a plain list: each pair that is held, with the slot that holds it.
 ghost use mathlib.Core.Path.{_≡_};
 ghost use mathlib.Core.Bool.{cond};
-ghost use Prim.Native.Nat.{_+_};
+ghost use Prim.Native.Nat.{ℕ, _+_, _<_, _≤_};
 ghost use lib.Dec.{eqb, ltb};
-ghost use Rattle.std.specs.Of.Vec.{vec-len};
+ghost use Rattle.std.specs.Of.Vec.{vec-len, vec-items};
+ghost use Rattle.std.specs.Places.{At, Every};
+ghost use Rattle.std.specs.Results.{isOk};
 ghost use Rattle.std.specs.Options.{Cases as BySome};
 ghost use Rattle.tlb_compare.specs.declared.pairs.Which.the-variants.{OfPage, OfSlot};
 use crate::plain::PlainEntry;
@@ -51,7 +53,7 @@ impl PairList {
     }
 
     fn find(&self, page: u64) -> Option<Held>
-        ensures { λ r. ⌜ BySome r (Unit {0}) (λ h. h .pair .page ≡ page) ⌝ }
+        ensures { λ r. ⌜ BySome r (Every (λ h. h .pair .page ≡ page → ⊥) (vec-items (now (self .entry) .held)) 0 (vec-len (now (self .entry) .held))) (λ h. (h .pair .page ≡ page) × ((k : ℕ) × (k < vec-len (now (self .entry) .held)) × At (λ x. x ≡ h) (vec-items (now (self .entry) .held)) k)) ⌝ }
     {
         for held in self.held.iter() {
             if held.pair.page == page {
@@ -67,16 +69,24 @@ impl PairList {
         Some(self.find(page)?.pair)
     }
 
-    pub fn slot(&self, page: u64) -> Option<u8> {
+    pub fn slot(&self, page: u64) -> Option<u8>
+        ensures { λ r. ⌜ BySome r (Every (λ h. h .pair .page ≡ page → ⊥) (vec-items (now (self .entry) .held)) 0 (vec-len (now (self .entry) .held))) (λ s. (k : ℕ) × (k < vec-len (now (self .entry) .held)) × At (λ x. (x .pair .page ≡ page) × (x .slot ≡ s)) (vec-items (now (self .entry) .held)) k) ⌝ }
+    {
         Some(self.find(page)?.slot)
     }
 
-    pub fn add(&mut self, slot: u8, pair: PlainPair) -> Result<(), AllocError> {
+    pub fn add(&mut self, slot: u8, pair: PlainPair) -> Result<(), AllocError>
+        ensures hand { λ _. ⌜ now (self .exit) .hand ≡ now (self .entry) .hand ⌝ }
+        ensures held { λ r. ⌜ vec-len (now (self .exit) .held) ≡ cond (isOk r) (vec-len (now (self .entry) .held) + 1) (vec-len (now (self .entry) .held)) ⌝ }
+    {
         self.held.push(Held { slot, pair })?;
         Ok(())
     }
 
-    fn drop_all(&mut self, which: Which) {
+    fn drop_all(&mut self, which: Which)
+        ensures hand { λ _. ⌜ now (self .exit) .hand ≡ now (self .entry) .hand ⌝ }
+        ensures fewer { λ _. ⌜ vec-len (now (self .exit) .held) ≤ vec-len (now (self .entry) .held) ⌝ }
+    {
         let mut i = 0;
         while i < self.held.len() {
             if which.covers(self.held[i]) {
@@ -87,7 +97,10 @@ impl PairList {
         }
     }
 
-    pub fn drop_page(&mut self, page: u64) {
+    pub fn drop_page(&mut self, page: u64)
+        ensures hand { λ _. ⌜ now (self .exit) .hand ≡ now (self .entry) .hand ⌝ }
+        ensures fewer { λ _. ⌜ vec-len (now (self .exit) .held) ≤ vec-len (now (self .entry) .held) ⌝ }
+    {
         self.drop_all(Which::OfPage(page));
     }
 
@@ -103,7 +116,9 @@ impl PairList {
     }
 
     // Drops every page that the entry says something of.
-    pub fn drop_pages_of(&mut self, entry: PlainEntry) {
+    pub fn drop_pages_of(&mut self, entry: PlainEntry)
+        ensures { λ _. ⌜ now (self .exit) .hand ≡ now (self .entry) .hand ⌝ }
+    {
         let first = entry.page / 16 * 16;
         for page in first..=first + 15 {
             if entry.pair(page).is_some() {
@@ -113,7 +128,9 @@ impl PairList {
     }
 
     // Adds every pair of the entry.
-    pub fn add_pairs_of(&mut self, slot: u8, entry: PlainEntry) -> Result<(), AllocError> {
+    pub fn add_pairs_of(&mut self, slot: u8, entry: PlainEntry) -> Result<(), AllocError>
+        ensures { λ _. ⌜ now (self .exit) .hand ≡ now (self .entry) .hand ⌝ }
+    {
         let first = entry.page / 16 * 16;
         for page in first..=first + 15 {
             if let Some(pair) = entry.pair(page) {
