@@ -1,4 +1,5 @@
 // Pseudo-random numbers, the same in every run.
+ghost use mathlib.Core.Path.{_≡_};
 ghost use Prim.Native.Nat.{_<_};
 
 #[derive(Drop)]
@@ -7,7 +8,9 @@ pub struct Random {
 }
 
 impl Random {
-    pub fn start() -> Random {
+    pub fn start() -> Random
+        ensures { λ r. ⌜ r .state ≡ 0x2545_f491_4f6c_dd1d ⌝ }
+    {
         Random {
             state: 0x2545_f491_4f6c_dd1d,
         }
