@@ -1,4 +1,6 @@
 // Frame allocators.
+#![tactic(auto)]
+
 mod allocator;
 mod fault;
 mod free_list;

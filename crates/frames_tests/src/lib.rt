@@ -1,4 +1,6 @@
 // Examples of the frame allocators.
+#![tactic(auto)]
+
 #[cfg(test)]
 mod tests {
     use frames::{AllocateFault, FrameAllocator, FreeFault, FreeListAllocator};

@@ -1,4 +1,6 @@
 // A frame allocator that reserves groups of frames for blocks of pages.
+#![tactic(auto)]
+
 mod age_order;
 mod age_order_calls;
 mod bit_set;

@@ -1,4 +1,6 @@
 // TLBs that are filled in software.
+#![tactic(auto)]
+
 mod entry;
 mod hand;
 mod one_page;

@@ -1,4 +1,6 @@
 // Compares each TLB with a plain model of it on pseudo-random calls.
+#![tactic(auto)]
+
 mod calls;
 mod compare;
 mod fault;

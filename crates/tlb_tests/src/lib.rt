@@ -1,4 +1,6 @@
 // Examples of the TLBs: more loads than slots, purges between, and three levels.
+#![tactic(auto)]
+
 #[cfg(test)]
 mod tests {
     use std::test::Fail;

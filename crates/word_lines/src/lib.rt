@@ -1,4 +1,6 @@
 // Lines of text that ask what a mapping word says of a page, and the lines that respond to them.
+#![tactic(auto)]
+
 mod numeral;
 mod pieces;
 mod query;

@@ -1,4 +1,6 @@
 // Reads lines `form word offset` from standard input, and prints what the word says of the page at the offset.
+#![tactic(auto)]
+
 use std::io;
 use std::io::{Read, Write};
 use word_lines::respond;

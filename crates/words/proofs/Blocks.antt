@@ -1,5 +1,5 @@
 -- The words of a map, read back.
-use Rattle.std.proofs.Common.{◌≡◌, ℕ, zero, suc, ◌+◌, ◌-◌, ◌*◌, ◌/◌, ◌%◌, ◌^◌, ◌<◌, Bool, true, false, cond, ◌&&◌, eqb, ltb, leb, ◌⊎◌, is_some, Some, None, Option, sym, refl, ap, ◌∙◌, ap₂, ⊎_elim, pow-suc, arith}
+use Rattle.std.proofs.Common.{◌≡◌, ℕ, zero, suc, ◌+◌, ◌-◌, ◌*◌, ◌/◌, ◌%◌, ◌^◌, ◌<◌, Bool, true, false, cond, ◌&&◌, eqb, ltb, leb, is_some, Some, None, Option, sym, refl, ap, ◌∙◌, ap₂, ⊎_elim, pow-suc, arith}
 use native.Mathlib.Nat.{add-div_right, add-mul-div_right, div-eq_of_lt}
 use Rattle.std.proofs.lemmas.Nat.{pow_pos, pow-add}
 use Rattle.std.proofs.lemmas.Bool.{cases_lt, eq-eqb, ne_eqb, lt-ltb, le-leb, and_from, or_right, cond-true, cond-false}
@@ -8,7 +8,7 @@ use Rattle.words.specs.declared.form.Form.{Form}
 use Rattle.words.specs.declared.form.Form.TheVariants as form
 use Rattle.words.specs.Layout.{bit, block_of, offset_of, page_at, compact_word, full_word, offsets_in, frame_block_in, attributes_in, frame_in, is_compact, is_full}
 use Rattle.words.specs.Reading.{form_number, is_word, translation, said, answer_of, reading}
-use Rattle.words.specs.Blocks.{Mapping, Used, Placed, Compact, mapped_offsets, BlockWord, page_word}
+use Rattle.words.specs.Blocks.{Mapping, Used, Placed, mapped_offsets, BlockWord, page_word}
 use Rattle.words.proofs.Flip.{bit_le}
 use Rattle.words.proofs.Translations.{translation_is}
 

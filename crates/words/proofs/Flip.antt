@@ -1,5 +1,5 @@
 -- Bits of numbers: one set, some cleared.
-use Rattle.std.proofs.Common.{◌≡◌, ℕ, zero, suc, ◌+◌, ◌-◌, ◌*◌, ◌/◌, ◌%◌, ◌^◌, ◌<◌, ◌≤◌, true, false, not, ◌&&◌, ◌||◌, eqb, ◌⊎◌, sym, refl, ap, ◌∙◌, ap₂, ⊎_elim, mul_comm, one-mul, pow-suc, zero-add, arith}
+use Rattle.std.proofs.Common.{◌≡◌, ℕ, zero, suc, ◌+◌, ◌-◌, ◌*◌, ◌/◌, ◌%◌, ◌^◌, ◌<◌, ◌≤◌, true, false, not, ◌&&◌, ◌||◌, eqb, sym, refl, ap, ◌∙◌, ap₂, ⊎_elim, mul_comm, one-mul, pow-suc, zero-add, arith}
 use native.Mathlib.Nat.{add-mul-div_right, div-eq_of_lt, zero-div}
 use lib.Bits.{bit_and, bit_or, and_shr, and_mod}
 use Rattle.std.proofs.lemmas.Bool.{cases_order, cases_lt, cases_eq, eqb-true, eqb-false, ne_eqb, eq-eqb}

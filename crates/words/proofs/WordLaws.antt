@@ -1,5 +1,5 @@
 -- The laws of the reader and of the words.
-use Rattle.std.proofs.Common.{◌≡◌, ℕ, ◌^◌, ◌<◌, true, false, ◌&&◌, eqb, leb, ◌⊎◌, Some, None, Err, Option, sym, refl, ap, ◌∙◌, subst, ap₂, ⊎_elim, arith}
+use Rattle.std.proofs.Common.{◌≡◌, ℕ, ◌^◌, ◌<◌, true, false, ◌&&◌, eqb, leb, Some, None, Err, Option, sym, refl, ap, ◌∙◌, subst, ap₂, ⊎_elim, arith}
 use Rattle.std.proofs.lemmas.Bool.{cases_Bool, cases_eq, ne_eqb, and_left, cond-false}
 use Rattle.words.specs.declared.fault.ReadFault.TheVariants.{BadWord}
 use Rattle.words.specs.declared.translation.Translation.{Translation}

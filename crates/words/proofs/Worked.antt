@@ -3,7 +3,6 @@ use Rattle.std.proofs.Common.{◌≡◌, ℕ, ◌+◌, ◌%◌, ◌^◌, true, f
 use mathlib.Core.Path.{fun_ext}
 use Rattle.std.proofs.lemmas.Bool.{cases_Bool, eqb-true, cond-true, cond-false, eq-eqb}
 use Rattle.words.specs.declared.translation.Translation.{Translation}
-use Rattle.words.specs.declared.form.Form.TheVariants as form
 use Rattle.words.specs.Points.{at}
 use Rattle.words.specs.Layout.{block_of, offset_of, page_at}
 use Rattle.words.specs.Reading.{translation}

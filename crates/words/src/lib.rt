@@ -1,4 +1,6 @@
 // Pages, blocks and mapping words of a clustered page table, and the reader that a TLB miss handler calls.
+#![tactic(auto)]
+
 mod access;
 mod address;
 mod compact;

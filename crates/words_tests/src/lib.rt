@@ -1,4 +1,6 @@
 // Examples at the edges of the word formats and of the lines that `wordread` takes: what is expected is written out from the formats.
+#![tactic(auto)]
+
 #[cfg(test)]
 mod lines;
 
