@@ -7,7 +7,7 @@ use words::{Page, Translation};
 
 // The first slot that holds the page.
 pub fn place<S: Slot>(slots: &[S], page: Page) -> Option<usize>
-    ensures first { result ≡ first_place held slots.now page.number }
+    ensures first { result ≡ first_place S.held slots.now page.number }
     ensures within { IfSome result (λ k. k < length slots.now) }
 {
     for (i, slot) in slots.iter().enumerate() {
@@ -20,7 +20,7 @@ pub fn place<S: Slot>(slots: &[S], page: Page) -> Option<usize>
 
 // What the first slot that holds the page has for it.
 pub fn find<S: Slot>(slots: &[S], page: Page) -> Option<Translation>
-    ensures { result ≡ first_held held slots.now page.number }
+    ensures { result ≡ first_held S.held slots.now page.number }
 {
     let Some(at) = place(slots, page) else {
         return None;
@@ -30,8 +30,8 @@ pub fn find<S: Slot>(slots: &[S], page: Page) -> Option<Translation>
 
 // Drops the page from every slot.
 pub fn purge<S: Slot>(slots: &mut [S], page: Page)
-    ensures exact { Each (λ s u. dropped s page.number u) slots.old slots.new }
-    ensures pages { Each (λ s u. (q : ℕ) → held u q ≡ without_page (held s) page.number q) slots.old slots.new }
+    ensures exact { Each (λ s u. S.dropped s page.number u) slots.old slots.new }
+    ensures pages { Each (λ s u. (q : ℕ) → S.held u q ≡ without_page (S.held s) page.number q) slots.old slots.new }
 {
     for slot in slots.iter_mut() {
         slot.drop_page(page);

@@ -2,8 +2,8 @@ use Rattle.std.proofs.Common.{Some, None, sym, ap, ◌∙◌}
 use Rattle.tlb.proofs.Rows.{placed_by}
 use Rattle.tlb.proofs.search.find.Goals as goal
 
-pub returns-in-default : goal.returns-in-default
-returns-in-default g c = sym (placed_by g.S.Slot.held c.args.slots.now c.args.page.number None c.in-default.ensures.first).0
+pub returns-in_default : goal.returns-in_default
+returns-in_default g c = sym (placed_by g.S.Slot.held c.args.slots.now c.args.page.number None c.in_default.ensures.first).0
 
 pub returns : goal.returns
 returns g c =

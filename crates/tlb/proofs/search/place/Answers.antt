@@ -4,8 +4,8 @@ use Rattle.std.specs.List.{HoldsAt}
 use Rattle.tlb.proofs.Rows.{found, not_found}
 use Rattle.tlb.proofs.search.place.Goals as goal
 
-pub returns-then-is-some : goal.returns-then-is-some
-returns-then-is-some g c =
+pub returns-then-is_some : goal.returns-then-is_some
+returns-then-is_some g c =
     let here : HoldsAt (λ s. is_some (g.S.Slot.held s c.args.page.number) ≡ true) c.args.slots.now c.loop-i.i = search (rules, get_or_read) in
     record {
       first = sym (found g.S.Slot.held c.args.slots.now c.loop-i.i c.args.page.number c.loop-i.invariant (omega arith) here);

@@ -13,8 +13,8 @@ loop-node-init c =
     let e : length (walk (next_in s) 256 (next_in s (256 + c.bucket.result))) ≡ length (chain_from (next_in s) (bucket_of b)) = ap (λ k. length (chain_from (next_in s) k)) c.bucket.ensures in
     (start s b c.bucket.result c.bucket.ensures, omega arith)
 
-pub overflow-add-looked : goal.overflow-add-looked
-overflow-add-looked c =
+pub overflow_add-looked : goal.overflow_add-looked
+overflow_add-looked c =
     let m = length_most (next_in c.args.self.now) 256 (next_in c.args.self.now (256 + bucket_of c.args.block.number)) in
     let e = c.loop-node.invariant.1 in
     omega arith

@@ -8,4 +8,4 @@ use Rattle.chains.proofs.chains.Chains.insert.Goals as goal
 pub returns-then-self-ge256 : goal.returns-then-self-ge256
 returns-then-self-ge256 c =
     let s = c.args.self.now in
-    (c.in-default.ensures, sym (all_linked s c.if-self-ge256.true) ∙ s.held ∙ ap (λ f. how_many f (2 ^ 48)) (fun_ext (λ b. sym (held_some s b))), refl)
+    (c.in_default.ensures, sym (all_linked s c.if-self-ge256.true) ∙ s.held ∙ ap (λ f. how_many f (2 ^ 48)) (fun_ext (λ b. sym (held_some s b))), refl)

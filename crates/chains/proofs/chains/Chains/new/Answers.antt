@@ -37,8 +37,8 @@ rises xs i g h k l = let ne : k ≢ 320 = omega arith in get_or-set_other xs 320
 heads : (xs : List ℕ) (i : ℕ) → i ≤ 256 → ((k : ℕ) → i ≤ k → k < 321 → get_or xs k 0 ≡ 256) → (b : ℕ) → b < 64 → link_at (set xs 320 0) (256 + b) ≡ 256
 heads xs i g h b l = let ne : 256 + b ≢ 320 = omega arith in get_or-set_other xs 320 (256 + b) 0 0 ne ∙ h (256 + b) (omega arith) (omega arith)
 
-pub invariant-of-result : goal.invariant-of-result
-invariant-of-result c =
+pub invariant_of-result : goal.invariant_of-result
+invariant_of-result c =
     let xs = c.loop-i.links in
     let i = c.loop-i.i in
     let f = free xs c.loop-i.invariant.0 in

@@ -3,15 +3,15 @@ use Rattle.chains.proofs.Changes.{pushed_sound, pushed_single, pushed_kept, push
 use Rattle.chains.proofs.Held.{no_node}
 use Rattle.chains.proofs.chains.Chains.push.Goals as goal
 
-pub overflow-add-self : goal.overflow-add-self
-overflow-add-self c =
+pub overflow_add-self : goal.overflow_add-self
+overflow_add-self c =
     let s = c.args.self.now in
     let n = no_node s c.args.block.number c.requires.absent in
     let l = push_room s c.args.block.number c.bucket-head.result c.bucket-head.ensures n c.requires.room (omega arith) (omega arith) (omega arith) in
     omega arith
 
-pub invariant-of-self : goal.invariant-of-self
-invariant-of-self c =
+pub invariant_of-self : goal.invariant_of-self
+invariant_of-self c =
     let s = c.args.self.now in
     let b = c.args.block.number in
     let h = c.bucket-head.result in

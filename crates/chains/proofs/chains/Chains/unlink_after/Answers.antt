@@ -4,11 +4,11 @@ use Rattle.std.specs.List.{slice_get}
 use Rattle.chains.proofs.Changes.{unlinked_sound, unlinked_single, unlinked_kept, unlinked_near, unlinked_nodes, unlinked_held, unlinked_puts}
 use Rattle.chains.proofs.chains.Chains.unlink_after.Goals as goal
 
-pub overflow-sub-self : goal.overflow-sub-self
-overflow-sub-self c = let n = unlinked_nodes c.args.self.now c.args.block.number c.args.place c.requires (omega arith) (omega arith) in omega arith
+pub overflow_sub-self : goal.overflow_sub-self
+overflow_sub-self c = let n = unlinked_nodes c.args.self.now c.args.block.number c.args.place c.requires (omega arith) (omega arith) in omega arith
 
-pub invariant-of-self : goal.invariant-of-self
-invariant-of-self c =
+pub invariant_of-self : goal.invariant_of-self
+invariant_of-self c =
     let s = c.args.self.now in
     let b = c.args.block.number in
     let q = c.args.place in

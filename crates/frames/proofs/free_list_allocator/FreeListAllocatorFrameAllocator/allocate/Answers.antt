@@ -15,8 +15,8 @@ bounds-self-place c =
     let h : 0 < s.count = omega (arith, c.if-self-eq0.false) in
     (head_in s.out (get_or s.list (s.count - 1) 0) (stacked s.list (s.count - 1)) (due_before s h)).0
 
-pub invariant-of-self : goal.invariant-of-self
-invariant-of-self c =
+pub invariant_of-self : goal.invariant_of-self
+invariant_of-self c =
     let s = c.args.self.now in
     let x = get_or s.list (s.count - 1) 0 in
     let h : 0 < s.count = omega (arith, c.if-self-eq0.false) in

@@ -17,8 +17,8 @@ bounds-self-self c =
 list_after : (xs : List ℕ) (n p : ℕ) → n < length xs → stacked (set xs n p) (n + 1) ≡ p ∷ stacked xs n
 list_after xs n p l = ap (stacked (set xs n p)) (omega arith) ∙ pushed xs n p l
 
-pub invariant-of-self : goal.invariant-of-self
-invariant-of-self c =
+pub invariant_of-self : goal.invariant_of-self
+invariant_of-self c =
     let s = c.args.self.now in
     let p = c.args.frame - s.first in
     let flags = flag_set s.out p false (omega arith) in

@@ -6,8 +6,8 @@ use Rattle.reservation.proofs.Ages.{placed_in}
 use Rattle.reservation.proofs.Places.{appended, appended_waits, appended_order, retell, order_of, waits_of}
 use Rattle.reservation.proofs.age_order.AgeOrder.append.Goals as goal
 
-pub invariant-of-self : goal.invariant-of-self
-invariant-of-self c =
+pub invariant_of-self : goal.invariant_of-self
+invariant_of-self c =
     let s = c.args.self.now in
     let g = c.args.group in
     let w = c.args.wait in

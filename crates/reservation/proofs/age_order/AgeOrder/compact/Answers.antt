@@ -5,13 +5,13 @@ use Rattle.reservation.specs.Ages.{place_of}
 use Rattle.reservation.proofs.Ages.{compacting, passed, moved_one, named}
 use Rattle.reservation.proofs.Places.{count_le}
 use Rattle.reservation.proofs.age_order.AgeOrder.compact.Goals as goal
-use Rattle.reservation.proofs.age_order.AgeOrder.compact.Goals.{then-is-taken, else-is-taken}
+use Rattle.reservation.proofs.age_order.AgeOrder.compact.Goals.{then-is_taken, else-is_taken}
 
 pub loop-place-init : goal.loop-place-init
 loop-place-init c = compacting c.args.self.now
 
-pub move-down-requires : goal.move-down-requires
-move-down-requires c = record { here = sym c.if-is-taken.ensures; down = c.loop-place.invariant.low; gap = c.loop-place.invariant.gap }
+pub move_down-requires : goal.move_down-requires
+move_down-requires c = record { here = sym c.if-is_taken.ensures; down = c.loop-place.invariant.low; gap = c.loop-place.invariant.gap }
 
 pub loop-place-preserved : goal.loop-place-preserved
 loop-place-preserved c =
@@ -19,15 +19,15 @@ loop-place-preserved c =
     let s = c.loop-place.self in
     let t = c.loop-place.lowest in
     let p = c.loop-place.place in
-    elim c.if-is-taken.branch [
-      | then-is-taken w ↦ named a _ w.move-down.new.self _ (t + 1) (p + 1) w.self-is w.lowest-is
-          (moved_one a s w.move-down.new.self t p c.loop-place.invariant (sym c.is-taken.ensures ∙ w.if-is-taken.true) (omega arith) w.move-down.ensures.wide.0 w.move-down.ensures.wide.1
-          w.move-down.ensures.within w.move-down.ensures.order w.move-down.ensures.waiting w.move-down.ensures.moved)
-      | else-is-taken w ↦ named a _ s _ t (p + 1) w.self-is w.lowest-is (passed a s t p c.loop-place.invariant (sym c.is-taken.ensures ∙ w.if-is-taken.false))
+    elim c.if-is_taken.branch [
+      | then-is_taken w ↦ named a _ w.move_down.new.self _ (t + 1) (p + 1) w.self-is w.lowest-is
+          (moved_one a s w.move_down.new.self t p c.loop-place.invariant (sym c.is_taken.ensures ∙ w.if-is_taken.true) (omega arith) w.move_down.ensures.wide.0 w.move_down.ensures.wide.1
+          w.move_down.ensures.within w.move_down.ensures.order w.move_down.ensures.waiting w.move_down.ensures.moved)
+      | else-is_taken w ↦ named a _ s _ t (p + 1) w.self-is w.lowest-is (passed a s t p c.loop-place.invariant (sym c.is_taken.ensures ∙ w.if-is_taken.false))
     ]
 
-pub invariant-of-self : goal.invariant-of-self
-invariant-of-self c =
+pub invariant_of-self : goal.invariant_of-self
+invariant_of-self c =
     let s = c.loop-place.self in
     let t = c.loop-place.lowest in
     let i = c.loop-place.invariant in

@@ -4,12 +4,12 @@ use Rattle.reservation.specs.Ages.{put_last}
 use Rattle.reservation.proofs.age_order.AgeOrder.join.Goals as goal
 
 pub append-requires : goal.append-requires
-append-requires c = record { new = ap (λ f. f c.args.group) c.make-room.ensures.within ∙ c.requires; room = c.make-room.ensures.room }
+append-requires c = record { new = ap (λ f. f c.args.group) c.make_room.ensures.within ∙ c.requires; room = c.make_room.ensures.room }
 
 pub returns : goal.returns
 returns c =
     let g = c.args.group in
-    let m = c.make-room.ensures in
+    let m = c.make_room.ensures in
     let a = c.append.ensures in
     record {
       within = a.within ∙ ap (λ f. at f g true) m.within;

@@ -5,8 +5,8 @@ use Rattle.reservation.proofs.Ages.{placed_in}
 use Rattle.reservation.proofs.Places.{gone, gone_waits, gone_order, retell, unchanged, order_of, waits_of}
 use Rattle.reservation.proofs.age_order.AgeOrder.leave.Goals as goal
 
-pub invariant-of-self : goal.invariant-of-self
-invariant-of-self c =
+pub invariant_of-self : goal.invariant_of-self
+invariant_of-self c =
     let s = c.args.self.now in
     let g = c.args.group in
     let here : member s g ≡ true = sym c.has.ensures ∙ c.if-has.true in

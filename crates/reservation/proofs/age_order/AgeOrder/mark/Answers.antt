@@ -5,8 +5,8 @@ use Rattle.reservation.proofs.Ages.{placed_in}
 use Rattle.reservation.proofs.Places.{marked, marked_waits, retell, unchanged, waits_of}
 use Rattle.reservation.proofs.age_order.AgeOrder.mark.Goals as goal
 
-pub invariant-of-self : goal.invariant-of-self
-invariant-of-self c =
+pub invariant_of-self : goal.invariant_of-self
+invariant_of-self c =
     let s = c.args.self.now in
     let p = retell _ (member s) _ (has c.put.new.self) _ _ _ refl c.put.ensures
     (marked (member s) (has s.waiting) s.places s.groups s.used (placed_in s) c.args.group c.requires c.args.wait) in

@@ -10,8 +10,8 @@ use Rattle.reservation.proofs.age_order.AgeOrder.move_down.Goals as goal
 both_put : (W V X : ℕ → Bool) (p t : ℕ) (w : Bool) → w ≡ W p → V ≡ at W p false → X ≡ at V t w → X ≡ at (at W p false) t (W p)
 both_put W V X p t w a b d = d ∙ ap (λ f. at f t w) b ∙ ap (at (at W p false) t) a
 
-pub invariant-of-self : goal.invariant-of-self
-invariant-of-self c =
+pub invariant_of-self : goal.invariant_of-self
+invariant_of-self c =
     let s = c.args.self.now in
     let p = c.args.from in
     let t = c.args.to in

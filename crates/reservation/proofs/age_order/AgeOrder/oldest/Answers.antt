@@ -19,7 +19,7 @@ returns c =
     let (here, first) = oldest_first (member s) (has s.waiting) s.places s.groups s.used (placed_in s) c.in-Some.place _ f.here (λ q l. f.before q (omega arith) l) refl in
     record { here = here; first = first }
 
-pub returns-in-default : goal.returns-in-default
-returns-in-default c =
+pub returns-in_default : goal.returns-in_default
+returns-in_default c =
     let s = c.args.self.now in
-    none_waits (member s) (has s.waiting) s.places s.groups s.used (placed_in s) (λ p. c.in-default.ensures.first p (omega arith))
+    none_waits (member s) (has s.waiting) s.places s.groups s.used (placed_in s) (λ p. c.in_default.ensures.first p (omega arith))

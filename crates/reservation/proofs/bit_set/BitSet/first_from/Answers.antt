@@ -3,8 +3,8 @@ use Rattle.std.proofs.lemmas.Nat.{trailing_le}
 use Rattle.reservation.proofs.WordSets.{past_words, in-words-below, first_left, first_in, none_left, none_more, none_all}
 use Rattle.reservation.proofs.bit_set.BitSet.first_from.Goals as goal
 
-pub overflow-add-result : goal.overflow-add-result
-overflow-add-result g c = omega (arith, trailing_le)
+pub overflow_add-result : goal.overflow_add-result
+overflow_add-result g c = omega (arith, trailing_le)
 
 pub returns-then-start : goal.returns-then-start
 returns-then-start g c = record { first = search (rules, past_words); within = search rules }
@@ -23,11 +23,11 @@ loop-i-init g c = search (rules, none_left)
 pub loop-i-preserved : goal.loop-i-preserved
 loop-i-preserved g c = search (rules, none_more)
 
-pub overflow-mul-result : goal.overflow-mul-result
-overflow-mul-result g c = omega arith
+pub overflow_mul-result : goal.overflow_mul-result
+overflow_mul-result g c = omega arith
 
-pub overflow-add-result-then-word-ne0 : goal.overflow-add-result-then-word-ne0
-overflow-add-result-then-word-ne0 g c = omega (arith, trailing_le)
+pub overflow_add-result-then-word-ne0 : goal.overflow_add-result-then-word-ne0
+overflow_add-result-then-word-ne0 g c = omega (arith, trailing_le)
 
 pub returns-then-word-ne0 : goal.returns-then-word-ne0
 returns-then-word-ne0 g c =

@@ -5,5 +5,5 @@ use Rattle.reservation.proofs.bit_set.BitSet.full.Goals as goal
 pub returns : goal.returns
 returns g c = all_words g.row.N
 
-pub invariant-of-result : goal.invariant-of-result
-invariant-of-result g c = (length-replicate g.row.N _, tt)
+pub invariant_of-result : goal.invariant_of-result
+invariant_of-result g c = (length-replicate g.row.N _, tt)

@@ -9,7 +9,7 @@ pub returns : goal.returns
 returns c =
     let bs = c.args.self.now.buckets in
     record {
-      first = subst (λ f. MatchOption c.first-from.result (NoneFrom f c.args.from) (λ k. FirstFrom f c.args.from k))
-          (sym (nth_get bs c.bucket.result _ (omega (arith, c.bucket.ensures))) ∙ ap (nth_has bs) c.bucket.ensures) c.first-from.ensures.first;
-      within = c.first-from.ensures.within;
+      first = subst (λ f. MatchOption c.first_from.result (NoneFrom f c.args.from) (λ k. FirstFrom f c.args.from k))
+          (sym (nth_get bs c.bucket.result _ (omega (arith, c.bucket.ensures))) ∙ ap (nth_has bs) c.bucket.ensures) c.first_from.ensures.first;
+      within = c.first_from.ensures.within;
     }

@@ -4,14 +4,14 @@ use Rattle.words.specs.Layout.{bit}
 use Rattle.reservation.proofs.WordSets.{lowest_clear}
 use Rattle.reservation.proofs.group.Group.lowest_in.Goals as goal
 
-pub invariant-of-result : goal.invariant-of-result
-invariant-of-result c =
+pub invariant_of-result : goal.invariant_of-result
+invariant_of-result c =
     let (l, e) = lowest_clear 16 c.args.self.out (omega (arith, eqb-false _ _ (not-true _ c.requires))) in
-    let r = c.trailing-ones.ensures in
+    let r = c.trailing_ones.ensures in
     (omega arith, tt)
 
 pub returns : goal.returns
 returns c =
     let (l, e) = lowest_clear 16 c.args.self.out (omega (arith, eqb-false _ _ (not-true _ c.requires))) in
-    let r = c.trailing-ones.ensures in
+    let r = c.trailing_ones.ensures in
     (omega arith, ap (bit c.args.self.out) r ∙ e)

@@ -6,8 +6,8 @@ use Rattle.reservation.specs.Sets.{has}
 use Rattle.reservation.proofs.Usages.{first_alike}
 use Rattle.reservation.proofs.reservation.ReservationAllocator.lowest_open.Goals as goal
 
-pub returns-in-default : goal.returns-in-default
-returns-in-default c = record { first = λ g. sym (c.args.self.now.opens g) ∙ c.in-default.ensures.first g (omega arith); whole = tt }
+pub returns-in_default : goal.returns-in_default
+returns-in_default c = record { first = λ g. sym (c.args.self.now.opens g) ∙ c.in_default.ensures.first g (omega arith); whole = tt }
 
 pub returns : goal.returns
 returns c =

@@ -8,8 +8,8 @@ use Rattle.reservation.specs.Sets.{has}
 use Rattle.reservation.proofs.Grouped.{fresh, open_group, new_in}
 use Rattle.reservation.proofs.reservation.ReservationAllocator.new.Goals as goal
 
-pub invariant-of-result : goal.invariant-of-result
-invariant-of-result c =
+pub invariant_of-result : goal.invariant_of-result
+invariant_of-result c =
     let first = c.from.ensures in (
       omega arith,
       (

@@ -10,8 +10,8 @@ use Rattle.reservation.proofs.Places.{at_each}
 use Rattle.reservation.proofs.Stored.{nth_set, kept_flag, kept_single, updated_by}
 use Rattle.reservation.proofs.reservation.ReservationAllocator.store.Goals as goal
 
-pub invariant-of-self : goal.invariant-of-self
-invariant-of-self c =
+pub invariant_of-self : goal.invariant_of-self
+invariant_of-self c =
     let s = c.args.self.now in
     let n = c.args.number in
     let x = c.args.group in
@@ -19,7 +19,7 @@ invariant-of-self c =
     let wide = s.all in
     let l : n < length s.groups = omega arith in
     let new = sym (nth_set s.groups n x l) in
-    let order = updated_by s.order c.update-2.new.self n _ _ _ _ c.is_reserved.ensures c.has-in.ensures c.update-2.ensures in (
+    let order = updated_by s.order c.update-2.new.self n _ _ _ _ c.is_reserved.ensures c.has_in.ensures c.update-2.ensures in (
       s.low,
       (
         s.whole,
@@ -30,7 +30,7 @@ invariant-of-self c =
             (
               subst (λ f. (g h : ℕ) → same_block (f g).usage (f h).usage ≡ true → g ≡ h) new (kept_single G n x s.single c.requires.single),
               (
-                subst (λ f. (g : ℕ) → has c.put.new.self g ≡ is_open (f g)) new (kept_flag is_open _ _ G n x _ c.put.ensures c.is-open.ensures s.opens),
+                subst (λ f. (g : ℕ) → has c.put.new.self g ≡ is_open (f g)) new (kept_flag is_open _ _ G n x _ c.put.ensures c.is_open.ensures s.opens),
                 (
                   subst (λ f. (g : ℕ) → has c.put-2.new.self g ≡ is_spare (f g)) new (kept_flag is_spare _ _ G n x _ c.put-2.ensures c.is_spare.ensures s.spares),
                   (
@@ -56,5 +56,5 @@ returns c =
     record {
       first = refl;
       stored = nth_set s.groups c.args.number c.args.group (omega arith);
-      order = updated_by s.order c.update-2.new.self c.args.number _ _ _ _ c.is_reserved.ensures c.has-in.ensures c.update-2.ensures;
+      order = updated_by s.order c.update-2.new.self c.args.number _ _ _ _ c.is_reserved.ensures c.has_in.ensures c.update-2.ensures;
     }

@@ -12,11 +12,11 @@ use Rattle.tlb.proofs.Upto.{Upto, upto_more, upto_kept, upto_all}
 use Rattle.tlb.proofs.partial_tlb.PartialSubblockTlbTlb.load.Goals as goal
 use Rattle.tlb.proofs.partial_tlb.PartialSubblockTlbTlb.load.Goals.{then-overlaps, else-overlaps}
 
-pub listed_then_overlaps : goal.listed_then_overlaps
-listed_then_overlaps c = omega arith
+pub listed-then-overlaps : goal.listed-then-overlaps
+listed-then-overlaps c = omega arith
 
-pub invariant-of-self : goal.invariant-of-self
-invariant-of-self c =
+pub invariant_of-self : goal.invariant_of-self
+invariant_of-self c =
     let xs = c.loop-i.self.slots in
     let i = c.loop-i.i in
     let l : i < length xs = omega arith in
@@ -52,8 +52,8 @@ loop-i-preserved c =
 all_cleared : (xs ys : List PartialSlot) (i b os c us : ℕ) → length xs ≤ i → Upto (Cleared b os) xs ys i → b ≡ c → os ≡ us → Each (Cleared c us) xs ys
 all_cleared xs ys i b os c us l u e f = subst (λ x. Each (Cleared x us) xs ys) e (subst (λ x. Each (Cleared b x) xs ys) f (upto_all (Cleared b os) xs ys i l u))
 
-pub invariant-of-self-2 : goal.invariant-of-self-2
-invariant-of-self-2 c =
+pub invariant_of-self-2 : goal.invariant_of-self-2
+invariant_of-self-2 c =
     let s = c.args.self.now in
     let ys = c.loop-i.self.slots in
     let e = c.args.entry in

@@ -4,5 +4,5 @@ use Rattle.tlb_compare.proofs.pairs.PairList.slot.Goals as goal
 
 pub returns : goal.returns
 returns c =
-    let (own, (k, l, at)) = c.in-ok-find.ensures in
+    let (own, (k, l, at)) = c.in_ok-find.ensures in
     (k, l, λ d. (ap (λ (h : Held). h.pair.page) (at d) ∙ own, ap (λ (h : Held). h.slot) (at d)))

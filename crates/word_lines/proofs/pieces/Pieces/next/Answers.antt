@@ -7,23 +7,23 @@ use Rattle.word_lines.proofs.Cutting.{next_piece}
 use Rattle.word_lines.proofs.pieces.Pieces.next.Goals as goal
 use Rattle.word_lines.proofs.pieces.Pieces.next.Goals.{in-empty, in-len1-up}
 
-pub returns-then-is-empty : goal.returns-then-is-empty
-returns-then-is-empty c =
-    let none = ap (pieces c.args.self.now.separator) (nil_from_length c.args.self.now.rest.now (eqb-true _ 0 (sym c.if-is-empty.ensures))) in
+pub returns-then-is_empty : goal.returns-then-is_empty
+returns-then-is_empty c =
+    let none = ap (pieces c.args.self.now.separator) (nil_from_length c.args.self.now.rest.now (eqb-true _ 0 (sym c.if-is_empty.ensures))) in
     record { by = refl; steps = (none, none); less = tt }
 
-pub split-at-requires : goal.split-at-requires
-split-at-requires c = omega (arith, c.piece-len.ensures, prefix_len-le-length (λ b. not (separates c.args.self.now.separator b)) c.args.self.now.rest.now)
+pub split_at-requires : goal.split_at-requires
+split_at-requires c = omega (arith, c.piece_len.ensures, prefix_len-le-length (λ b. not (separates c.args.self.now.separator b)) c.args.self.now.rest.now)
 
 pub returns : goal.returns
 returns c =
-    let some : 0 < length c.args.self.now.rest.now = omega (arith, eqb-false _ 0 (sym c.if-is-empty.ensures)) in
-    let rest : c.if-after-lt1.self.now ≡ drop 1 c.split-at.result.1.now =
-    elim c.if-after-lt1.branch [ in-empty w ↦ let e : c.split-at.result.1.now ≡ [] = nil_from_length c.split-at.result.1.now (search rules) in ap (λ x. x.now) w.self-is ∙ e ∙ ap (drop 1) (sym e) | in-len1-up w ↦ ap (λ x. x.now) w.self-is ∙ take_rest c.split-at.result.1.now 1 ] in
+    let some : 0 < length c.args.self.now.rest.now = omega (arith, eqb-false _ 0 (sym c.if-is_empty.ensures)) in
+    let rest : c.if-after-lt1.self.now ≡ drop 1 c.split_at.result.1.now =
+    elim c.if-after-lt1.branch [ in-empty w ↦ let e : c.split_at.result.1.now ≡ [] = nil_from_length c.split_at.result.1.now (search rules) in ap (λ x. x.now) w.self-is ∙ e ∙ ap (drop 1) (sym e) | in-len1-up w ↦ ap (λ x. x.now) w.self-is ∙ take_rest c.split_at.result.1.now 1 ] in
     record {
       by = refl;
-      steps = next_piece c.args.self.now.separator c.args.self.now.rest.now _ c.split-at.result.1.now _ some
-          (c.split-at.ensures.front ∙ ap (λ n. take n c.args.self.now.rest.now) c.piece-len.ensures)
-          (c.split-at.ensures.back ∙ ap (λ n. drop n c.args.self.now.rest.now) c.piece-len.ensures) rest;
-      less = omega (arith, ap length rest ∙ length-drop 1 c.split-at.result.1.now, c.split-at.ensures.back_len);
+      steps = next_piece c.args.self.now.separator c.args.self.now.rest.now _ c.split_at.result.1.now _ some
+          (c.split_at.ensures.front ∙ ap (λ n. take n c.args.self.now.rest.now) c.piece_len.ensures)
+          (c.split_at.ensures.back ∙ ap (λ n. drop n c.args.self.now.rest.now) c.piece_len.ensures) rest;
+      less = omega (arith, ap length rest ∙ length-drop 1 c.split_at.result.1.now, c.split_at.ensures.back_len);
     }
