@@ -19,6 +19,9 @@ TOKEN = re.compile(r"[^\s(){}\[\],;.⌜⌝«»`\"'λ]+'*")
 HEAD = re.compile(r"^\s*(?:(?:pub|abbrev|unfoldable|record|data)\s+)*([^\s(){}:,.]+)\s*(?:\([^=]*\)\s*|\{[^=]*\}\s*)*:\s")
 LOCAL = re.compile(r"(?:\blet\s+|[({]\s*)([^\s(){}:,.=]+)\s*(?::\s|=)")
 
+# Names of the repository that only look like those that Rattle makes.
+OWN = {"in-bucket", "in-has", "in-stock", "in-words-below"}
+
 
 def snake(name):
     name = re.sub(r"([a-z0-9])([A-Z])", lambda m: m.group(1) + "_" + m.group(2).lower(), name)
@@ -26,7 +29,7 @@ def snake(name):
 
 
 def is_own(name):
-    return bool(re.match(r"\w", name)) and not name[0].isupper() and snake(name) != name and not MADE.search(name)
+    return bool(re.match(r"\w", name)) and not name[0].isupper() and snake(name) != name and (name in OWN or not MADE.search(name))
 
 
 def files(root):

@@ -44,7 +44,7 @@ invariant_of-result c =
     let f = free xs c.loop-i.invariant.0 in
     let r = rises xs i (omega arith) c.loop-i.invariant.1 in
     let h = heads xs i (omega arith) c.loop-i.invariant.2 in
-    (refl, (fresh_sound (set xs 320 0) (replicate 256 0) f r h, (fresh_single (set xs 320 0) (replicate 256 0) f r h, (fresh_kept (set xs 320 0) (replicate 256 0) f r h, (fresh_near (set xs 320 0) (replicate 256 0) f r h, (fresh_nodes (set xs 320 0) (replicate 256 0) f r h, (fresh_held (set xs 320 0) (replicate 256 0) f r h, tt)))))))
+    record { wide = refl; sound = fresh_sound (set xs 320 0) (replicate 256 0) f r h; single = fresh_single (set xs 320 0) (replicate 256 0) f r h; kept = fresh_kept (set xs 320 0) (replicate 256 0) f r h; near = fresh_near (set xs 320 0) (replicate 256 0) f r h; nodes = fresh_nodes (set xs 320 0) (replicate 256 0) f r h; held = fresh_held (set xs 320 0) (replicate 256 0) f r h }
 
 pub returns : goal.returns
 returns c b =

@@ -20,13 +20,7 @@ invariant_of-self c =
     let r = c.requires.room in
     let wl : length s.links ≡ 321 = omega arith in
     let wb : length s.blocks ≡ 256 = omega arith in
-    let wf : length s.linked ≡ 256 = omega arith in (
-      length-set s.bodies _ _ ∙ s.wide,
-      (
-        pushed_sound s b h e n r wl wb wf,
-        (pushed_single s b h e n r wl wb wf, (pushed_kept s b h e n r wl wb wf, (pushed_near s b h e n r wl wb wf (omega arith), (pushed_nodes s b h e n r wl wb wf, (pushed_held s b h e n r wl wb wf (omega arith), tt))))),
-      ),
-    )
+    let wf : length s.linked ≡ 256 = omega arith in record { wide = length-set s.bodies _ _ ∙ s.wide; sound = pushed_sound s b h e n r wl wb wf; single = pushed_single s b h e n r wl wb wf; kept = pushed_kept s b h e n r wl wb wf; near = pushed_near s b h e n r wl wb wf (omega arith); nodes = pushed_nodes s b h e n r wl wb wf; held = pushed_held s b h e n r wl wb wf (omega arith) }
 
 pub returns : goal.returns
 returns c =

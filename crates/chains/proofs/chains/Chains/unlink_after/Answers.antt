@@ -16,7 +16,7 @@ invariant_of-self c =
     let wf : length s.linked ≡ 256 = omega arith in
     let n = unlinked_nodes s b q c.requires wl wf in
     let h = unlinked_held s b q c.requires wl wf (omega arith) in
-    (s.wide, (unlinked_sound s b q c.requires wl wf, (unlinked_single s b q c.requires wl wf, (unlinked_kept s b q c.requires wl wf, (unlinked_near s b q c.requires wl wf, (omega arith, (omega arith, tt)))))))
+    record { wide = s.wide; sound = unlinked_sound s b q c.requires wl wf; single = unlinked_single s b q c.requires wl wf; kept = unlinked_kept s b q c.requires wl wf; near = unlinked_near s b q c.requires wl wf; nodes = omega arith; held = omega arith }
 
 pub returns : goal.returns
 returns c =

@@ -18,7 +18,7 @@ pub invariant_of-result : goal.invariant_of-result
 invariant_of-result c =
     let flags = no_flags 4096 in
     let falls : (k : ℕ) → k < 4096 → get_or c.loop-i.list k 0 ≡ 4095 - k = λ k h. c.loop-i.invariant.1 k (omega arith) in
-    (omega arith, (omega arith, (new_once c.loop-i.list falls, tt)))
+    record { low = omega arith; total = omega arith; once = new_once c.loop-i.list falls }
 
 pub returns : goal.returns
 returns c =

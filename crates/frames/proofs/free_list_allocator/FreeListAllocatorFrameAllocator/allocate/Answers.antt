@@ -24,7 +24,7 @@ invariant_of-self c =
     let flags = flag_set s.out x true (omega arith) in
     let one : cond {A = ℕ} (get_or s.out x false) 1 0 ≡ 0 = ap (λ b. cond {A = ℕ} b 1 0) f in
     let t = s.total in
-    (s.low, (omega arith, (popped s.out x (stacked s.list (s.count - 1)) (omega arith) (due_before s h), tt)))
+    record { low = s.low; total = omega arith; once = popped s.out x (stacked s.list (s.count - 1)) (omega arith) (due_before s h) }
 
 pub returns-then-self-eq0 : goal.returns-then-self-eq0
 returns-then-self-eq0 c =

@@ -26,7 +26,7 @@ invariant_of-self c =
     let one : cond {A = ℕ} (get_or s.out p false) 1 0 ≡ 1 = ap (λ b. cond {A = ℕ} b 1 0) t in
     let sum = s.total in
     let l : s.count < length s.list = omega arith in
-    (s.low, (omega arith, ((λ i. ap (occurs i) (list_after s.list s.count p l) ∙ came s.out p (stacked s.list s.count) (omega arith) (omega arith) t s.once i), tt)))
+    record { low = s.low; total = omega arith; once = (λ i. ap (occurs i) (list_after s.list s.count p l) ∙ came s.out p (stacked s.list s.count) (omega arith) (omega arith) t s.once i) }
 
 pub returns : goal.returns
 returns c =

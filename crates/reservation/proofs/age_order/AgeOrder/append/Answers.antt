@@ -13,7 +13,7 @@ invariant_of-self c =
     let w = c.args.wait in
     let p = retell _ (has c.put.new.self) _ (has c.put-2.new.self) _ _ _ c.put.ensures c.put-2.ensures
     (appended (member s) (has s.waiting) s.places s.groups s.used (placed_in s) g w c.requires.new (omega arith) (omega arith)) in
-    (omega arith, (p.placed, (p.waits, tt)))
+    record { few = omega arith; placed = p.placed; waits = p.waits }
 
 pub returns : goal.returns
 returns c =

@@ -33,7 +33,7 @@ invariant_of-self c =
     let i = c.loop-place.invariant in
     let l = i.low in
     let few = s.few in
-    (omega arith, ((λ g m. let (b, e) = s.placed g m in (⊎_elim (λ x. x) (λ x. let y = i.gap g m x in absurd (omega arith)) (cases_lt (place_of s g) t), e)), (s.waits, tt)))
+    record { few = omega arith; placed = (λ g m. let (b, e) = s.placed g m in (⊎_elim (λ x. x) (λ x. let y = i.gap g m x in absurd (omega arith)) (cases_lt (place_of s g) t), e)); waits = s.waits }
 
 pub returns : goal.returns
 returns c =

@@ -12,7 +12,7 @@ invariant_of-self c =
     let here : member s g ≡ true = sym c.has.ensures ∙ c.if-has.true in
     let p = retell _ (has c.put.new.self) _ (has c.put-then-has.new.self) _ _ _ c.put.ensures c.put-then-has.ensures
     (gone (member s) (has s.waiting) s.places s.groups s.used (placed_in s) g here) in
-    (s.few, (p.placed, (p.waits, tt)))
+    record { few = s.few; placed = p.placed; waits = p.waits }
 
 pub returns-then-has : goal.returns-then-has
 returns-then-has c =

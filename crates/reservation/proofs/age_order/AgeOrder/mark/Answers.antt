@@ -10,7 +10,7 @@ invariant_of-self c =
     let s = c.args.self.now in
     let p = retell _ (member s) _ (has c.put.new.self) _ _ _ refl c.put.ensures
     (marked (member s) (has s.waiting) s.places s.groups s.used (placed_in s) c.args.group c.requires c.args.wait) in
-    (s.few, (p.placed, (p.waits, tt)))
+    record { few = s.few; placed = p.placed; waits = p.waits }
 
 pub returns : goal.returns
 returns c =

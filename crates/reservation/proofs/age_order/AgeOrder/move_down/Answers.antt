@@ -22,7 +22,7 @@ invariant_of-self c =
     let q = retell _ (member s) _ (has c.put-2.new.self) _ _ _ refl
     (both_put (has s.waiting) (has c.put.new.self) _ p t c.has-wait.result c.has-wait.ensures c.put.ensures c.put-2.ensures)
     (moved (member s) (has s.waiting) s.places s.groups s.used (placed_in s) (get_or s.groups p 0) p t m e d c.requires.gap (omega arith) (omega arith)) in
-    (s.few, (q.placed, (q.waits, tt)))
+    record { few = s.few; placed = q.placed; waits = q.waits }
 
 pub returns : goal.returns
 returns c =

@@ -6,4 +6,4 @@ pub returns : goal.returns
 returns g c = no_words g.row.N
 
 pub invariant_of-result : goal.invariant_of-result
-invariant_of-result g c = (length-replicate g.row.N _, tt)
+invariant_of-result g c = record { wide = length-replicate g.row.N _ }

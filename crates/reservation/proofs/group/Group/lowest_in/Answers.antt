@@ -8,7 +8,7 @@ pub invariant_of-result : goal.invariant_of-result
 invariant_of-result c =
     let (l, e) = lowest_clear 16 c.args.self.out (omega (arith, eqb-false _ _ (not-true _ c.requires))) in
     let r = c.trailing_ones.ensures in
-    (omega arith, tt)
+    record { within = omega arith }
 
 pub returns : goal.returns
 returns c =

@@ -5,10 +5,10 @@ use Rattle.tlb.proofs.Rows.{at_some, at_none}
 use Rattle.tlb.proofs.one_page_tlb.OnePageTlbTlb.load.Goals as goal
 
 pub invariant_of-self : goal.invariant_of-self
-invariant_of-self c = (overwritten c.args.self.now.slots c.args.page c.in-Some.translation c.args.self.now.single c.in-Some-place.at c.in-Some-place.ensures.first, tt)
+invariant_of-self c = record { single = overwritten c.args.self.now.slots c.args.page c.in-Some.translation c.args.self.now.single c.in-Some-place.at c.in-Some-place.ensures.first }
 
 pub invariant_of-self-in-None : goal.invariant_of-self-in-None
-invariant_of-self-in-None c = (filled c.args.self.now.slots c.args.page c.in-Some.translation c.args.self.now.single c.args.self.now.hand.at (omega arith) c.in-None.ensures.first, tt)
+invariant_of-self-in-None c = record { single = filled c.args.self.now.slots c.args.page c.in-Some.translation c.args.self.now.single c.args.self.now.hand.at (omega arith) c.in-None.ensures.first }
 
 pub returns-in-Some-place : goal.returns-in-Some-place
 returns-in-Some-place c =

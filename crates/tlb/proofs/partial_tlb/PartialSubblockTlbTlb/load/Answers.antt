@@ -23,7 +23,7 @@ invariant_of-self c =
     let b = c.block-block.result.number in
     let os = c.offsets-offsets.result in
     let f = c.index-self-i-then-overlaps.result in
-    (lost_over xs i b os c.clear.new.self f l c.loop-i.self.single (was_cleared xs i b os c.index-self-i.result f c.clear.new.self l c.if-overlaps.ensures c.clear.ensures), tt)
+    record { single = lost_over xs i b os c.clear.new.self f l c.loop-i.self.single (was_cleared xs i b os c.index-self-i.result f c.clear.new.self l c.if-overlaps.ensures c.clear.ensures) }
 
 pub loop-i-preserved : goal.loop-i-preserved
 loop-i-preserved c =
@@ -58,7 +58,7 @@ invariant_of-self-2 c =
     let ys = c.loop-i.self.slots in
     let e = c.args.entry in
     let each = all_cleared s.slots ys c.loop-i.i c.block-block.result.number c.offsets-offsets.result (block_of e.page.number) (entry_offsets e) (omega arith) c.loop-i.invariant.0 c.block-block.ensures c.offsets-offsets.ensures in
-    (after s.slots ys e c.args.page.number c.in-Some.translation c.of_entry.result c.loop-i.self.hand.at s.single each c.of_entry.ensures (sym c.in-Some.ensures) (omega arith), tt)
+    record { single = after s.slots ys e c.args.page.number c.in-Some.translation c.of_entry.result c.loop-i.self.hand.at s.single each c.of_entry.ensures (sym c.in-Some.ensures) (omega arith) }
 
 pub returns : goal.returns
 returns c =
