@@ -14,7 +14,7 @@ import re
 import sys
 
 MADE = re.compile(
-    r"^(returns|loop|invariant|decreases|overflow|bounds|termination|borrow|ghost|in|if|then|else|shift|cast)(-|$)|-requires$|^witness")
+    r"^(returns|loop|invariant|invariant_of|decreases|overflow|overflow_\w+|split_at|move_down|listed|bounds|termination|borrow|ghost|in|if|then|else|shift|cast)(-|$)|-requires$|^witness")
 TOKEN = re.compile(r"[^\s(){}\[\],;.⌜⌝«»`\"'λ]+'*")
 HEAD = re.compile(r"^\s*(?:(?:pub|abbrev|unfoldable|record|data)\s+)*([^\s(){}:,.]+)\s*(?:\([^=]*\)\s*|\{[^=]*\}\s*)*:\s")
 LOCAL = re.compile(r"(?:\blet\s+|[({]\s*)([^\s(){}:,.=]+)\s*(?::\s|=)")

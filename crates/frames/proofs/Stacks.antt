@@ -93,14 +93,14 @@ all_out out once i l =
 abbrev pub flagged : ℕ → List Bool → ℕ → Bool
 flagged first out q = (leb first q && ltb (q - first) 4096) && get_or out (q - first) false
 
-pub in-stock : (first p : ℕ) → p < 4096 → (leb first (first + p) && ltb (first + p - first) 4096) ≡ true
-in-stock first p h = and_from _ _ (le-leb first (first + p) (omega arith)) (lt-ltb (first + p - first) 4096 (omega arith))
+pub in_stock : (first p : ℕ) → p < 4096 → (leb first (first + p) && ltb (first + p - first) 4096) ≡ true
+in_stock first p h = and_from _ _ (le-leb first (first + p) (omega arith)) (lt-ltb (first + p - first) 4096 (omega arith))
 
 place_of : (first p : ℕ) → first + p - first ≡ p
 place_of first p = omega arith
 
 pub flag_at : (first p : ℕ) (out : List Bool) → p < 4096 → flagged first out (first + p) ≡ get_or out p false
-flag_at first p out h = ap (λ x. x && get_or out (first + p - first) false) (in-stock first p h) ∙ ap (λ k. get_or out k false) (place_of first p)
+flag_at first p out h = ap (λ x. x && get_or out (first + p - first) false) (in_stock first p h) ∙ ap (λ k. get_or out k false) (place_of first p)
 
 pub flag_written : (first p : ℕ) (out : List Bool) (b : Bool) → p < 4096 → length out ≡ 4096 → flagged first (set out p b) ≡ at (flagged first out) (first + p) b
 flag_written first p out b h long = fun_ext (λ q.

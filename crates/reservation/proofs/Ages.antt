@@ -6,14 +6,14 @@ use Rattle.reservation.specs.declared.bit_set.BitSet.{BitSet}
 use Rattle.reservation.specs.Ages.{member, before, waits, place_of, taken, Gap}
 use Rattle.reservation.specs.Sets.{has}
 use Rattle.reservation.proofs.Places.{Placed, count, count_none, moved_gap, moved_count, passed_gap}
-use Rattle.reservation.proofs.WordSets.{in-words-below}
+use Rattle.reservation.proofs.WordSets.{in_words_below}
 
 pub placed_in : (s : AgeOrder) → Placed (member s) (has s.waiting) s.places s.groups s.used
 placed_in s = record { placed = s.placed; waits = s.waits }
 
 -- a set has only numbers that its words have bits for
 pub has_below : (n : ℕ) (s : BitSet n) (k : ℕ) → has s k ≡ true → k < 64 * n
-has_below n s k h = let w = s.wide in let l = in-words-below s.words k h in omega arith
+has_below n s k h = let w = s.wide in let l = in_words_below s.words k h in omega arith
 
 -- the group at a place that is taken
 pub at_place : (s : AgeOrder) (p : ℕ) → taken s p ≡ true → (member s (get_or s.groups p 0) ≡ true) × (place_of s (get_or s.groups p 0) ≡ p)

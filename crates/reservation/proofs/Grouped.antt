@@ -9,7 +9,7 @@ use Rattle.reservation.specs.declared.group.Group.{Group}
 use Rattle.reservation.specs.declared.group.Usage.TheVariants.{Open, Broken}
 use Rattle.reservation.specs.declared.reservation.ReservationAllocator.{ReservationAllocator}
 use Rattle.reservation.specs.Groups.{block_use, nth_group}
-use Rattle.reservation.specs.Index.{in-bucket}
+use Rattle.reservation.specs.Index.{in_bucket}
 use Rattle.reservation.specs.Reservation.{group_of, group_stock, group_out, NoneIn, OnlyFor}
 use Rattle.reservation.specs.Sets.{FirstFrom, NoneFrom}
 use Rattle.reservation.proofs.Usages.{both_for, not_listed}
@@ -27,7 +27,7 @@ only_for s b g d l e =
 abbrev pub NoneBelow : ReservationAllocator → ℕ → ℕ → Type 0
 NoneBelow s b a = (g : ℕ) → g < a → block_use b (group_of s g).usage ≡ false
 
-pub none_below : (s : ReservationAllocator) (b a g : ℕ) (d : Group) → NoneBelow s b a → g < 256 → FirstFrom (in-bucket s.index (bucket_of b)) a g → false ≡ block_use b (get_or s.groups g d).usage → NoneBelow s b (g + 1)
+pub none_below : (s : ReservationAllocator) (b a g : ℕ) (d : Group) → NoneBelow s b a → g < 256 → FirstFrom (in_bucket s.index (bucket_of b)) a g → false ≡ block_use b (get_or s.groups g d).usage → NoneBelow s b (g + 1)
 none_below s b a g d none l f e k m = ⊎_elim
     (none k)
     (λ x. ⊎_elim
@@ -36,7 +36,7 @@ none_below s b a g d none l f e k m = ⊎_elim
     (cases_eq k g))
     (cases_lt k a)
 
-pub none_at_all : (s : ReservationAllocator) (b a : ℕ) → NoneBelow s b a → NoneFrom (in-bucket s.index (bucket_of b)) a → (g : ℕ) → block_use b (group_of s g).usage ≡ false
+pub none_at_all : (s : ReservationAllocator) (b a : ℕ) → NoneBelow s b a → NoneFrom (in_bucket s.index (bucket_of b)) a → (g : ℕ) → block_use b (group_of s g).usage ≡ false
 none_at_all s b a none from g = ⊎_elim (none g) (λ x. not_listed (group_of s g).usage b (sym (s.listed (bucket_of b) g) ∙ from g x)) (cases_lt g a)
 
 -- where no group has a frame in, every frame of the stock is out

@@ -62,8 +62,8 @@ first_once f a j k x y = ⊎_elim (λ e. e)
     (cases_order j k)
 
 -- a frame that is in shows that its group has one
-in-has : (x : Group) (k : ℕ) → In x k → has_in x ≡ true
-in-has x k (l, e) = not_from_false (eqb x.out 65535) (ne_eqb x.out 65535 (λ d. both_ways _ e (ap (λ w. bit w k) d ∙ full_bit k l)))
+in_has : (x : Group) (k : ℕ) → In x k → has_in x ≡ true
+in_has x k (l, e) = not_from_false (eqb x.out 65535) (ne_eqb x.out 65535 (λ d. both_ways _ e (ap (λ w. bit w k) d ∙ full_bit k l)))
 
 -- the longest reserved is one group
 longest_once : (s : ReservationAllocator) (g h : ℕ) → Longest s g → Longest s h → g ≡ h
@@ -109,7 +109,7 @@ own_once s p Reserves Breaks g h j k a b r x = absurd (both_ways false refl b)
 own_once s p Reserves BreaksOldest g h j k a b r x = absurd (both_ways false refl b)
 
 no_spare : (s : ReservationAllocator) (g k : ℕ) → NoSpare s → is_broken (group_of s g) ≡ true → In (group_of s g) k → ⊥
-no_spare s g k none b i = both_ways _ (none g) (and_from _ _ b (in-has (group_of s g) k i))
+no_spare s g k none b i = both_ways _ (none g) (and_from _ _ b (in_has (group_of s g) k i))
 
 any_once : (s : ReservationAllocator) (p : ℕ) (t v : Step) (g h j k : ℕ) → own_group t ≡ false → own_group v ≡ false → At s p t g j → At s p v h k → (t ≡ v) × (last_step t ≡ true → g ≡ h)
 any_once s p Kept v g h j k a b r x = absurd (both_ways true a refl)

@@ -82,8 +82,8 @@ pub past_words : (ws : List ℕ) (a : ℕ) → length ws ≤ a / 64 → NoneFrom
 past_words ws a l k h = ap (λ x. bit x (k % 64)) (get_or_past ws (k / 64) 0 (omega arith)) ∙ no_bit (k % 64)
 
 -- a number that is in has a word
-pub in-words-below : (ws : List ℕ) (k : ℕ) → in_words ws k ≡ true → k < 64 * length ws
-in-words-below ws k h = ⊎_elim (λ l. l) (λ l. absurd (both_ways _ (past_words ws k (omega arith) k (omega arith)) h)) (cases_lt k (64 * length ws))
+pub in_words_below : (ws : List ℕ) (k : ℕ) → in_words ws k ≡ true → k < 64 * length ws
+in_words_below ws k h = ⊎_elim (λ l. l) (λ l. absurd (both_ways _ (past_words ws k (omega arith) k (omega arith)) h)) (cases_lt k (64 * length ws))
 
 at_word : (ws : List ℕ) (i j : ℕ) → j / 64 ≡ i → in_words ws j ≡ bit (get_or ws i 0) (j % 64)
 at_word ws i j e = ap (λ x. bit (get_or ws x 0) (j % 64)) e

@@ -14,16 +14,16 @@ nth_has (s ∷ ss) zero k = has s k
 nth_has (s ∷ ss) (suc h) k = nth_has ss h k
 
 -- the group k is in the bucket h
-abbrev pub in-bucket : BlockIndex → ℕ → ℕ → Bool
-in-bucket x = nth_has x.buckets
+abbrev pub in_bucket : BlockIndex → ℕ → ℕ → Bool
+in_bucket x = nth_has x.buckets
 
 -- the group g is in the bucket of its block, where it has one, and in no other
 abbrev pub ListedAs : BlockIndex → ℕ → Usage → Type 0
-ListedAs x g u = (h : ℕ) → in-bucket x h g ≡ bucket_use h u
+ListedAs x g u = (h : ℕ) → in_bucket x h g ≡ bucket_use h u
 
 -- only the group g may be in other buckets than before
 abbrev pub OthersListed : BlockIndex → ℕ → BlockIndex → Type 0
-OthersListed x g y = (h k : ℕ) → (k ≢ g) → in-bucket y h k ≡ in-bucket x h k
+OthersListed x g y = (h k : ℕ) → (k ≢ g) → in_bucket y h k ≡ in_bucket x h k
 
 -- a set with the group g in or out, where the test says so
 abbrev pub put_in : Bool → (ℕ → Bool) → ℕ → Bool → ℕ → Bool

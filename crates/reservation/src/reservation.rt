@@ -2,7 +2,7 @@
 ghost use Rattle.std.specs.Prelude.{◌≡◌, ℕ, ◌%◌, ◌≤◌, true, length, ◌==◌};
 ghost use Rattle.reservation.specs.Ages.{member, waits};
 ghost use Rattle.reservation.specs.Groups.{nth_group, is_open, is_reserved, is_spare, waits_in, bucket_use, same_block};
-ghost use Rattle.reservation.specs.Index.{in-bucket};
+ghost use Rattle.reservation.specs.Index.{in_bucket};
 ghost use Rattle.reservation.specs.Sets.{has};
 
 use crate::age_order::AgeOrder;
@@ -29,7 +29,7 @@ pub struct ReservationAllocator {
     ghost single: { (g h : ℕ) → same_block (nth_group groups g).usage (nth_group groups h).usage ≡ true → g ≡ h },
     ghost opens: { (g : ℕ) → has open_groups g ≡ is_open (nth_group groups g) },
     ghost spares: { (g : ℕ) → has spare_groups g ≡ is_spare (nth_group groups g) },
-    ghost listed: { (h g : ℕ) → in-bucket index h g ≡ bucket_use h (nth_group groups g).usage },
+    ghost listed: { (h g : ℕ) → in_bucket index h g ≡ bucket_use h (nth_group groups g).usage },
     ghost ordered: { (g : ℕ) → member order g ≡ is_reserved (nth_group groups g) },
     ghost waiting: { (g : ℕ) → waits order g ≡ waits_in (nth_group groups g) },
 }

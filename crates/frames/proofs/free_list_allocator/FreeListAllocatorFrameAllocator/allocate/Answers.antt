@@ -2,7 +2,7 @@ use Rattle.std.proofs.Common.{◌≡◌, ℕ, ◌+◌, ◌-◌, ◌<◌, true, f
 use Rattle.words.specs.Points.{at}
 use Rattle.frames.specs.declared.free_list.FreeListAllocator.{FreeListAllocator}
 use Rattle.frames.specs.Lists.{stacked, occurs, due}
-use Rattle.frames.proofs.Stacks.{top, no_list, none_in, head_in, popped, flag_set, flagged, flag_at, in-stock, flag_written}
+use Rattle.frames.proofs.Stacks.{top, no_list, none_in, head_in, popped, flag_set, flagged, flag_at, in_stock, flag_written}
 use Rattle.frames.proofs.free_list_allocator.FreeListAllocatorFrameAllocator.allocate.Goals as goal
 
 -- the list before, as its head and the rest
@@ -46,7 +46,7 @@ returns c =
     record {
       step = ap (map (λ i. s.first + i)) (top s.list s.count h) ∙ ap (λ y. (s.first + y) ∷ map (λ i. s.first + i) (stacked s.list (s.count - 1))) (sym e);
       takes = (
-        ap (λ y. leb s.first (s.first + y) && ltb (s.first + y - s.first) 4096) e ∙ in-stock s.first x l,
+        ap (λ y. leb s.first (s.first + y) && ltb (s.first + y - s.first) 4096) e ∙ in_stock s.first x l,
         ap (λ y. flagged s.first s.out (s.first + y)) e ∙ flag_at s.first x s.out l ∙ f,
         flag_written s.first x s.out true l (omega arith) ∙ ap (λ y. at (flagged s.first s.out) (s.first + y) true) (sym e),
       );

@@ -1,6 +1,6 @@
 use Rattle.std.proofs.Common.{arith, rules}
 use Rattle.std.proofs.lemmas.Nat.{trailing_le}
-use Rattle.reservation.proofs.WordSets.{past_words, in-words-below, first_left, first_in, none_left, none_more, none_all}
+use Rattle.reservation.proofs.WordSets.{past_words, in_words_below, first_left, first_in, none_left, none_more, none_all}
 use Rattle.reservation.proofs.bit_set.BitSet.first_from.Goals as goal
 
 pub overflow_add-result : goal.overflow_add-result
@@ -13,7 +13,7 @@ pub returns-then-rest-ne0 : goal.returns-then-rest-ne0
 returns-then-rest-ne0 g c =
     let ws = c.args.self.now.words in
     let f = first_left ws c.args.from (omega arith) (omega arith) in
-    let l = in-words-below ws _ f.here in
+    let l = in_words_below ws _ f.here in
     let e = c.args.self.now.wide in
     record { first = f; within = omega arith }
 
@@ -33,7 +33,7 @@ pub returns-then-word-ne0 : goal.returns-then-word-ne0
 returns-then-word-ne0 g c =
     let ws = c.args.self.now.words in
     let f = first_in ws c.args.from c.loop-i.i c.loop-i.invariant (omega arith) (omega arith) (omega arith) in
-    let l = in-words-below ws _ f.here in
+    let l = in_words_below ws _ f.here in
     let e = c.args.self.now.wide in
     record { first = f; within = omega arith }
 

@@ -1,13 +1,13 @@
 use Rattle.std.proofs.Common.{true, false, ◌∙◌}
 use Rattle.reservation.specs.Groups.{bucket_use}
-use Rattle.reservation.specs.Index.{in-bucket}
+use Rattle.reservation.specs.Index.{in_bucket}
 use Rattle.reservation.proofs.Indexed.{relisted, put_other}
 use Rattle.reservation.proofs.block_index.BlockIndex.update.Goals as goal
 
 pub returns : goal.returns
 returns c =
-    let x = in-bucket c.args.self.now in
-    let y = in-bucket c.put.new.self in
+    let x = in_bucket c.args.self.now in
+    let y = in_bucket c.put.new.self in
     let g = c.args.group in
     let old = c.args.old in
     let new = c.args.new in
