@@ -19,8 +19,19 @@ invariant_of-self c =
     let wide = s.all in
     let l : n < length s.groups = omega arith in
     let new = sym (nth_set s.groups n x l) in
-    let order = updated_by s.order c.update-2.new.self n _ _ _ _ c.is_reserved.ensures c.has_in.ensures c.update-2.ensures in record { low = s.low; whole = s.whole; all = length-set s.groups n x ∙ s.all; used = subst (λ f. (g : ℕ) → is_open (f g) ≡ eqb (f g).out 0) new (at_each (λ k v. is_open v ≡ eqb v.out 0) G n x c.requires.used (λ k ne. s.used k)); single = subst (λ f. (g h : ℕ) → same_block (f g).usage (f h).usage ≡ true → g ≡ h) new (kept_single G n x s.single c.requires.single); opens = subst (λ f. (g : ℕ) → has c.put.new.self g ≡ is_open (f g)) new (kept_flag is_open _ _ G n x _ c.put.ensures c.is_open.ensures s.opens); spares = subst (λ f. (g : ℕ) → has c.put-2.new.self g ≡ is_spare (f g)) new (kept_flag is_spare _ _ G n x _ c.put-2.ensures c.is_spare.ensures s.spares); listed = (λ h g. subst (λ f. (g : ℕ) → (h : ℕ) → in_bucket c.update.new.self h g ≡ bucket_use h (f g).usage) new
-                        (at_each (λ k v. (h : ℕ) → in_bucket c.update.new.self h k ≡ bucket_use h v.usage) G n x c.update.ensures.own (λ k ne h. c.update.ensures.others h k ne ∙ s.listed h k)) g h); ordered = subst (λ f. (g : ℕ) → member c.update-2.new.self g ≡ is_reserved (f g)) new (kept_flag is_reserved _ _ G n x _ order.within refl s.ordered); waiting = subst (λ f. (g : ℕ) → waits c.update-2.new.self g ≡ waits_in (f g)) new (kept_flag waits_in _ _ G n x _ order.waiting refl s.waiting) }
+    let order = updated_by s.order c.update-2.new.self n _ _ _ _ c.is_reserved.ensures c.has_in.ensures c.update-2.ensures in record {
+      low = s.low;
+      whole = s.whole;
+      all = length-set s.groups n x ∙ s.all;
+      used = subst (λ f. (g : ℕ) → is_open (f g) ≡ eqb (f g).out 0) new (at_each (λ k v. is_open v ≡ eqb v.out 0) G n x c.requires.used (λ k ne. s.used k));
+      single = subst (λ f. (g h : ℕ) → same_block (f g).usage (f h).usage ≡ true → g ≡ h) new (kept_single G n x s.single c.requires.single);
+      opens = subst (λ f. (g : ℕ) → has c.put.new.self g ≡ is_open (f g)) new (kept_flag is_open _ _ G n x _ c.put.ensures c.is_open.ensures s.opens);
+      spares = subst (λ f. (g : ℕ) → has c.put-2.new.self g ≡ is_spare (f g)) new (kept_flag is_spare _ _ G n x _ c.put-2.ensures c.is_spare.ensures s.spares);
+      listed = (λ h g. subst (λ f. (g : ℕ) → (h : ℕ) → in_bucket c.update.new.self h g ≡ bucket_use h (f g).usage) new
+          (at_each (λ k v. (h : ℕ) → in_bucket c.update.new.self h k ≡ bucket_use h v.usage) G n x c.update.ensures.own (λ k ne h. c.update.ensures.others h k ne ∙ s.listed h k)) g h);
+      ordered = subst (λ f. (g : ℕ) → member c.update-2.new.self g ≡ is_reserved (f g)) new (kept_flag is_reserved _ _ G n x _ order.within refl s.ordered);
+      waiting = subst (λ f. (g : ℕ) → waits c.update-2.new.self g ≡ waits_in (f g)) new (kept_flag waits_in _ _ G n x _ order.waiting refl s.waiting);
+    }
 
 pub returns : goal.returns
 returns c =

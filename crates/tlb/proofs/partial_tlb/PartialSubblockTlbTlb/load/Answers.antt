@@ -58,7 +58,7 @@ invariant_of-self-2 c =
     let ys = c.loop-i.self.slots in
     let e = c.args.entry in
     let each = all_cleared s.slots ys c.loop-i.i c.block-block.result.number c.offsets-offsets.result (block_of e.page.number) (entry_offsets e) (omega arith) c.loop-i.invariant.0 c.block-block.ensures c.offsets-offsets.ensures in
-    record { single = after s.slots ys e c.args.page.number c.in-Some.translation c.of_entry.result c.loop-i.self.hand.at s.single each c.of_entry.ensures (sym c.in-Some.ensures) (omega arith) }
+    (after s.slots ys e c.args.page.number c.in-Some.translation c.of_entry.result c.loop-i.self.hand.at s.single each c.of_entry.ensures (sym c.in-Some.ensures) (omega arith), tt)
 
 pub returns : goal.returns
 returns c =
