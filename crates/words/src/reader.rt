@@ -44,9 +44,8 @@ fn encoded(answer: Result<Translation, ReadFault>) -> u64
     }
 }
 
-// The reader as the miss handler calls it from C: any three numbers in, one number out.
-#[unsafe(no_mangle)]
-pub extern "C" fn joistolive_read_word(form: u64, word: u64, offset: u64) -> u64
+// The reader as the miss handler calls it from C, through the crate `words_c`: any three numbers in, one number out.
+pub fn joistolive_read_word(form: u64, word: u64, offset: u64) -> u64
     ensures answer { result ≡ answer_number (reading form word offset) }
     ensures map { Tells form word offset result }
 {
