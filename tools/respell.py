@@ -5,7 +5,7 @@ usage: python3 tools/respell.py        at the top of the repository, once, after
 
 A name is the repository's own where a file of specs/ or proofs/ declares it. Names that Rattle makes for goals,
 loops and calls keep their dashes, since the check gives them; so does what a library declares, and what stands in
-a string or a line of code. It refuses to bring two names of one file together. It touches .antt files, the ghost
+a string, a comment or a line of code. It says where two names of one file fall together. It touches .antt files, the ghost
 items and clauses of .rt files, and names between backquotes in README.md and docs/.
 """
 
@@ -60,6 +60,11 @@ def turn_tokens(text, own):
     return TOKEN.sub(lambda m: snake(m.group(0)) if m.group(0) in own else m.group(0), text)
 
 
+def turn_antt(text, own):
+    """All but the comments, where a dash may be a word's own."""
+    return "\n".join(turn_tokens(code_of(line), own) + line[len(code_of(line)):] for line in text.split("\n"))
+
+
 def turn_rt(text, own):
     """Ghost items and clauses alone: from 'ghost', 'requires' or 'ensures' to the end of the braces."""
     out, i = [], 0
@@ -103,7 +108,7 @@ def main():
                 print(f"together: {path}: {sorted(wordset)} -> {to}", file=sys.stderr)
     changed = 0
     for path, text in texts.items():
-        new = turn_tokens(text, own) if path.endswith(".antt") else turn_rt(text, own)
+        new = turn_antt(text, own) if path.endswith(".antt") else turn_rt(text, own)
         if new != text:
             changed += 1
             with open(path, "w", encoding="utf-8") as f:

@@ -1,4 +1,4 @@
--- The one_page TLB: what a load, a purge and a flush leave.
+-- The one-page TLB: what a load, a purge and a flush leave.
 use Rattle.std.proofs.Common.{◌≡◌, ℕ, ◌<◌, ◌≤◌, Bool, true, false, cond, eqb, ◌⊎◌, List, length, get_or, set, is_some, Some, None, refl, ap, ◌∙◌, inl, inr, ⊎_elim, arith}
 use Rattle.std.proofs.lemmas.Bool.{cases_Bool, eqb-true, eq-eqb, cond-true}
 use Rattle.words.specs.declared.address.Page.{Page}

@@ -1,4 +1,4 @@
--- The partial_subblock TLB: what a load leaves.
+-- The partial-subblock TLB: what a load leaves.
 use Rattle.std.proofs.Common.{◌≡◌, ℕ, ◌<◌, ◌≤◌, Bool, true, false, cond, eqb, ◌⊎◌, List, length, get_or, set, Some, None, MatchBool, Option, sym, refl, ap, ◌∙◌, subst, inl, inr, ⊎_elim, arith}
 use Rattle.std.proofs.lemmas.Bool.{cases_Bool, eqb-true, eqb-false, eq-eqb, ne_eqb, and_from, cond-true, cond-false}
 use Rattle.std.proofs.lemmas.List.{get_or_default}

@@ -1,4 +1,4 @@
--- What the one_page TLB means, by its slots and its hand.
+-- What the one-page TLB means, by its slots and its hand.
 use Rattle.std.specs.Prelude.{◌≡◌, ℕ, replicate, MatchOption, slice_set}
 use Rattle.words.specs.declared.translation.Translation.{Translation}
 use Rattle.tlb.specs.declared.one_page.OnePageTlb.{OnePageTlb}

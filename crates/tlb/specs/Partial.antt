@@ -1,4 +1,4 @@
--- What the partial_subblock TLB means, by its slots and its hand.
+-- What the partial-subblock TLB means, by its slots and its hand.
 use Rattle.std.specs.Prelude.{◌≡◌, List, replicate, MatchOption, slice_set}
 use Rattle.words.specs.Layout.{block_of}
 use Rattle.tlb.specs.declared.entry.Entry.{Entry}
