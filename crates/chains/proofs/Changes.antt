@@ -1,8 +1,8 @@
 -- What is held of each block after a body is written, a node linked, or a node unlinked.
-use Rattle.std.proofs.Common.{◌≡◌, ℕ, ◌+◌, ◌^◌, ◌<◌, ◌≤◌, Bool, true, false, cond, ltb, ◌⊎◌, List, [], length, get_or, set, Some, None, sym, refl, ap, ◌∙◌, subst, ap₂, inl, inr, ⊎_elim, arith, length-set, MatchOption}
+use Rattle.std.proofs.Common.{◌≡◌, ℕ, ◌+◌, ◌^◌, ◌<◌, ◌≤◌, Bool, true, false, cond, ltb, ◌⊎◌, List, [], length, set, Some, None, sym, refl, ap, ◌∙◌, subst, ap₂, inl, inr, ⊎_elim, arith, length-set, MatchOption}
 use mathlib.Core.Path.{fun_ext}
 use Rattle.std.proofs.lemmas.Option.{slice_get_past}
-use Rattle.std.proofs.lemmas.Bool.{cases_eq, cases_lt, cases_Bool, both_ways, lt-ltb, le-ltb, cond-true, cond-false}
+use Rattle.std.proofs.lemmas.Bool.{cases_eq, cases_Bool, both_ways, lt-ltb, le-ltb, cond-true, cond-false}
 use Rattle.std.specs.List.{slice_get}
 use Rattle.words.specs.Layout.{bucket_of}
 use Rattle.words.specs.Points.{at}
@@ -14,7 +14,7 @@ use Rattle.chains.specs.Links.{on}
 use Rattle.chains.specs.Nodes.{link_at, block_at, flag_at, home_of, chain_from, node_for, is_held, Sound, Single, Kept, Near, Holds, NoTwice, NoneLost}
 use Rattle.chains.proofs.Counts.{one, many_at, many_all, many_less}
 use Rattle.chains.proofs.Cut.{on_not_off}
-use Rattle.chains.proofs.Held.{next_in, home_in, block_in, home_most, flag_of_home, home_of_flag, no_flag_of_home, node_of_most, node_of_block, block_of_linked, no_body, get_d_at, nth_at}
+use Rattle.chains.proofs.Held.{next_in, home_in, block_in, home_most, no_flag_of_home, node_of_block, block_of_linked, get_d_at, nth_at}
 use Rattle.chains.proofs.Linking.{at_here, at_there, push_next, push_home, push_block, push_sound, push_single, push_kept, push_here, push_others, cut_next, cut_home, cut_sound, cut_single, cut_kept, cut_others, cut_gone}
 use Rattle.chains.proofs.Steps.{step, over}
 

@@ -1,7 +1,7 @@
 -- A node taken out of the middle of a chain.
-use Rattle.std.proofs.Common.{◌≡◌, ℕ, zero, suc, ◌+◌, ◌-◌, ◌<◌, ◌≤◌, Bool, true, false, cond, ◌&&◌, ◌||◌, eqb, ltb, leb, ◌⊎◌, List, [], ◌∷◌, length, sym, refl, ap, ◌∙◌, subst, inl, inr, ⊎_elim, arith}
+use Rattle.std.proofs.Common.{◌≡◌, ℕ, ◌<◌, true, false, cond, eqb, List, [], ◌∷◌, length, sym, refl, ap, ◌∙◌, subst, ⊎_elim, arith}
 use Rattle.std.proofs.lemmas.Bool.{eqb-true, or_cases, or_left, or_right, both_ways, eq-eqb, cases_eq, cond-true, cond-false, ne_eqb}
-use Rattle.chains.specs.Links.{walk, chained, node_with, on}
+use Rattle.chains.specs.Links.{node_with, on}
 use Rattle.chains.proofs.Walks.{Chained, Off, unique, tail, node_framed, node_past}
 
 -- l without i

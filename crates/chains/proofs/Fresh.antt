@@ -1,12 +1,9 @@
 -- New chains: every node is free.
-use Rattle.std.proofs.Common.{◌≡◌, ℕ, zero, suc, ◌+◌, ◌^◌, ◌<◌, ◌≤◌, Bool, true, false, cond, ◌⊎◌, List, [], ◌∷◌, length, get_or, set, replicate, sym, refl, ap, ◌∙◌, subst, ⊎_elim, arith}
-use Rattle.std.proofs.lemmas.List.{get_or-set_same, get_or-set_other}
-use Rattle.std.proofs.lemmas.Option.{slice_get_past}
+use Rattle.std.proofs.Common.{◌≡◌, ℕ, zero, suc, ◌+◌, ◌^◌, ◌<◌, ◌≤◌, Bool, true, false, List, [], ◌∷◌, get_or, replicate, sym, refl, ap, ◌∙◌, subst, ⊎_elim, arith}
 use Rattle.std.proofs.lemmas.Bool.{cases_lt, cases_eq, both_ways, le-ltb, cond-false}
-use Rattle.std.specs.List.{slice_get}
 use Rattle.words.specs.Layout.{bucket_of}
 use Rattle.chains.specs.Counting.{how_many}
-use Rattle.chains.specs.Links.{walk, chained, node_with, no_twice, on}
+use Rattle.chains.specs.Links.{chained, node_with, no_twice, on}
 use Rattle.chains.specs.Nodes.{link_at, block_at, flag_at, home_of, chain_from, node_for, is_held, Sound, Single, Kept, Near}
 use Rattle.chains.proofs.Counts.{many_none}
 use Rattle.chains.proofs.Cut.{on_here, on_there}

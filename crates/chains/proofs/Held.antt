@@ -1,21 +1,20 @@
 -- What is held of a block, by its node.
-use Rattle.std.proofs.Common.{◌≡◌, ℕ, zero, suc, ◌+◌, ◌^◌, ◌<◌, ◌≤◌, Bool, true, false, cond, ◌&&◌, eqb, ltb, ◌≢◌, ◌⊎◌, List, [], ◌∷◌, length, get_or, set, is_some, Some, None, Option, sym, refl, ap, ◌∙◌, subst, inl, inr, ⊎_elim, arith, length-set}
+use Rattle.std.proofs.Common.{◌≡◌, ℕ, zero, suc, ◌+◌, ◌<◌, ◌≤◌, true, false, eqb, ltb, ◌≢◌, List, [], ◌∷◌, length, get_or, set, is_some, Some, None, sym, refl, ap, ◌∙◌, subst, ⊎_elim, arith}
 use mathlib.Core.Path.{fun_ext}
 use Rattle.std.proofs.lemmas.List.{get_or-set_same, get_or-set_other}
-use Rattle.std.proofs.lemmas.Option.{slice_get-get_or, slice_get_past}
-use Rattle.std.proofs.lemmas.Bool.{cases_eq, cases_lt, cases_Bool, both_ways, eq-eqb, ne_eqb, eqb-true, lt-ltb, le-ltb, ltb-true, and_parts, or_cases, or_left, or_right, cond-true, cond-false}
+use Rattle.std.proofs.lemmas.Option.{slice_get_past}
+use Rattle.std.proofs.lemmas.Bool.{cases_eq, cases_lt, cases_Bool, both_ways, eq-eqb, eqb-true, lt-ltb, le-ltb, and_parts, or_cases, or_left, or_right, cond-true, cond-false}
 use Rattle.std.specs.List.{slice_get}
 use Rattle.words.specs.Layout.{bucket_of}
 use Rattle.words.specs.Points.{at}
 use Rattle.chains.specs.declared.chains.Chains.{Chains}
 use Rattle.chains.specs.declared.node.Body.{Body}
 use Rattle.chains.specs.Chains.{node_of, body_of, block_of_node}
-use Rattle.chains.specs.Links.{walk, chained, node_with, no_twice, on}
-use Rattle.chains.specs.Nodes.{link_at, block_at, flag_at, home_of, chain_from, is_held}
-use Rattle.chains.proofs.Cut.{on_not_off, on_rest}
+use Rattle.chains.specs.Links.{walk, node_with, no_twice, on}
+use Rattle.chains.specs.Nodes.{link_at, block_at, flag_at, home_of, chain_from}
 use Rattle.chains.proofs.Linking.{at_here, at_there, at_home}
 use Rattle.chains.proofs.Steps.{Going, step, falls, passed, here, nowhere}
-use Rattle.chains.proofs.Walks.{Chained, opened, ended, node_here, node_past}
+use Rattle.chains.proofs.Walks.{Chained, opened, node_here, node_past}
 
 -- the functions of a pool of chains
 abbrev pub next_in : Chains → ℕ → ℕ

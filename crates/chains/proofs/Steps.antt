@@ -1,7 +1,7 @@
 -- One step along a chain.
-use Rattle.std.proofs.Common.{◌≡◌, ℕ, zero, suc, ◌+◌, ◌<◌, ◌≤◌, Bool, true, false, cond, ltb, List, [], ◌∷◌, length, sym, refl, ap, ◌∙◌, subst, arith}
+use Rattle.std.proofs.Common.{◌≡◌, ℕ, zero, suc, ◌+◌, ◌<◌, ◌≤◌, true, false, cond, ltb, List, [], ◌∷◌, length, sym, ap, ◌∙◌, subst, arith}
 use Rattle.chains.specs.Links.{walk, chained, node_with}
-use Rattle.chains.proofs.Walks.{Chained, opened, closed, whole, stepped, ended, node_here, node_past, node_none}
+use Rattle.chains.proofs.Walks.{opened, closed, whole, stepped, ended, node_here, node_past, node_none}
 
 -- the chain b holds together from i on
 abbrev pub Going : (ℕ → ℕ) → (ℕ → ℕ) → ℕ → ℕ → Type 0

@@ -1,6 +1,6 @@
 // The free list as a frame allocator.
 ghost use Rattle.frames.specs.FreeList.{free_list, NewList};
-ghost use Rattle.std.proofs.Common.{rules, arith};
+ghost use Rattle.std.proofs.Common.{rules};
 
 use crate::allocator::FrameAllocator;
 use crate::fault::{AllocateFault, FreeFault};
@@ -28,9 +28,9 @@ impl FreeListAllocator {
 impl FrameAllocator for FreeListAllocator {
     ghost meaning = { free_list };
 
-    ghost within = { first_of (Prim.search rules, Prim.grind (arith, Self.row.coded.inj)) };
+    ghost within = { Prim.search rules };
 
-    ghost small = { first_of (Prim.search rules, Prim.grind (arith, Self.row.coded.inj)) };
+    ghost small = { Prim.search rules };
 
     // The page does not matter.
     fn allocate(&mut self, _page: Page) -> Result<u32, AllocateFault> {

@@ -1,17 +1,15 @@
 -- Frames at their pages' offsets, and what the rules leave open.
-use Rattle.std.proofs.Common.{◌≡◌, ℕ, ◌+◌, ◌-◌, ◌*◌, ◌/◌, ◌%◌, ◌<◌, Bool, true, false, eqb, ◌⊎◌, Ok, Err, Result, sym, refl, ap, ◌∙◌, subst, ⊎_elim, arith}
+use Rattle.std.proofs.Common.{◌≡◌, ℕ, ◌-◌, ◌/◌, Bool, true, false, eqb, Ok, Err, sym, refl, ap, ◌∙◌, subst, ⊎_elim, arith}
 use Rattle.std.proofs.lemmas.Bool.{both_ways, eqb-true, ne_eqb, not-false, not_from_false, and_from, and_parts, ltb-true, cases_Bool, cases_eq, cases_order}
 use Rattle.words.specs.Layout.{bit, block_of, offset_of}
-use Rattle.frames.specs.declared.fault.AllocateFault.{AllocateFault}
-use Rattle.reservation.specs.declared.group.Choice.{Choice}
 use Rattle.reservation.specs.declared.group.Group.{Group}
 use Rattle.reservation.specs.declared.group.Step.{Step}
 use Rattle.reservation.specs.declared.group.Step.TheVariants.{Kept, Reserves, Spare, Breaks, BreaksOldest}
 use Rattle.reservation.specs.declared.reservation.ReservationAllocator.{ReservationAllocator}
 use Rattle.reservation.specs.Ages.{place_of}
 use Rattle.reservation.specs.Groups.{is_open, is_broken, has_in, block_use, In}
-use Rattle.reservation.specs.Laws.{own_group, last_step, Kept-at-offset, Open-group-gives-offset, Determined}
-use Rattle.reservation.specs.Reservation.{reservation, group_of, NoGroup, NoSpare, Unplaced, Longest, Rule, UsedAs, Chosen, Taken}
+use Rattle.reservation.specs.Laws.{own_group, last_step, KeptAtOffset, OpenGroupGivesOffset, Determined}
+use Rattle.reservation.specs.Reservation.{group_of, NoGroup, NoSpare, Unplaced, Longest, Rule, UsedAs}
 use Rattle.reservation.specs.Sets.{FirstFrom}
 use Rattle.reservation.proofs.Grouped.{full_bit}
 use Rattle.reservation.proofs.Stored.{frame_group}
@@ -24,7 +22,7 @@ own_offset s p Spare g k r e = absurd (both_ways false refl e)
 own_offset s p Breaks g k r e = absurd (both_ways false refl e)
 own_offset s p BreaksOldest g k r e = absurd (both_ways false refl e)
 
-pub kept_at_offset : Kept-at-offset
+pub kept_at_offset : KeptAtOffset
 kept_at_offset s u p f c chosen taken own =
     let e = own_offset s p c.step c.group c.offset.number chosen.rule own in
     let d = taken.frame in
@@ -39,7 +37,7 @@ reserving s p g Spare h k o none r = absurd (both_ways _ (r.0.reserves none g) o
 reserving s p g Breaks h k o none r = absurd (both_ways _ (r.0.reserves none g) o)
 reserving s p g BreaksOldest h k o none r = absurd (both_ways _ (r.0.reserves none g) o)
 
-pub open_group_gives_offset : Open-group-gives-offset
+pub open_group_gives_offset : OpenGroupGivesOffset
 open_group_gives_offset s u p g (Ok f) o none (c, chosen, taken) =
     let t = reserving s p g c.step c.group c.offset.number o none chosen.rule in
     let e : (f - s.first) / 16 ≡ c.group = ap (λ x. (x - s.first) / 16) taken.frame ∙ frame_group s c.group c.offset.number chosen.within.0 in (

@@ -25,12 +25,12 @@ last_step Breaks = false
 last_step BreaksOldest = true
 
 -- a frame of the first two steps has its page's offset
-abbrev pub Kept-at-offset : Type 0
-Kept-at-offset = (s u : ReservationAllocator) (p f : ℕ) (c : Choice) → Chosen s p c → Taken s p c f u → own_group c.step ≡ true → f % 16 ≡ offset_of p
+abbrev pub KeptAtOffset : Type 0
+KeptAtOffset = (s u : ReservationAllocator) (p f : ℕ) (c : Choice) → Chosen s p c → Taken s p c f u → own_group c.step ≡ true → f % 16 ≡ offset_of p
 
 -- while a group is open, a page whose block has no group gets a frame, at its offset, of a group that is then reserved for its block
-abbrev pub Open-group-gives-offset : Type 0
-Open-group-gives-offset = (s u : ReservationAllocator) (p g : ℕ) (r : Result ℕ AllocateFault) → is_open (group_of s g) ≡ true → NoGroup s (block_of p) → reservation.allocated s p r u →
+abbrev pub OpenGroupGivesOffset : Type 0
+OpenGroupGivesOffset = (s u : ReservationAllocator) (p g : ℕ) (r : Result ℕ AllocateFault) → is_open (group_of s g) ≡ true → NoGroup s (block_of p) → reservation.allocated s p r u →
     (f : ℕ) × (r ≡ Ok f) × (f % 16 ≡ offset_of p) × (block_use (block_of p) (group_of u ((f - s.first) / 16)).usage ≡ true)
 
 -- the rules leave open only what is free: two choices for a page go by one step, in the first two they are one frame, and in the last one group

@@ -1,5 +1,5 @@
 -- What the reservation allocator means, by its groups and the order in which they were reserved.
-use Rattle.std.specs.Prelude.{◌≡◌, ℕ, ◌+◌, ◌-◌, ◌*◌, ◌/◌, ◌%◌, ◌<◌, Bool, true, false, ◌&&◌, MatchBool, MatchResult, ◌≢◌, nat_le, nat_lt}
+use Rattle.std.specs.Prelude.{◌≡◌, ℕ, ◌+◌, ◌-◌, ◌*◌, ◌/◌, ◌%◌, Bool, true, false, ◌&&◌, MatchBool, MatchResult, ◌≢◌, nat_le, nat_lt}
 use Rattle.words.specs.Layout.{bit, block_of, offset_of}
 use Rattle.frames.specs.Meaning.{FramesMeaning}
 use Rattle.reservation.specs.declared.group.Choice.{Choice}

@@ -1,7 +1,7 @@
 // Page reservation as a frame allocator.
 ghost use Rattle.reservation.specs.Reservation.{reservation, NewReservation};
-ghost use Rattle.reservation.specs.Laws.{Kept-at-offset, Open-group-gives-offset, Determined};
-ghost use Rattle.std.proofs.Common.{rules, arith};
+ghost use Rattle.reservation.specs.Laws.{KeptAtOffset, OpenGroupGivesOffset, Determined};
+ghost use Rattle.std.proofs.Common.{rules};
 
 use crate::age_order::AgeOrder;
 use crate::bit_set::BitSet;
@@ -33,8 +33,8 @@ impl ReservationAllocator {
     // A frame of the page's own group has the page's offset; while a group is open, a page whose block has none gets one; and the
     // rules leave open only what is free.
     pub fn places(&self)
-        ensures kept { Kept-at-offset }
-        ensures vacant { Open-group-gives-offset }
+        ensures kept { KeptAtOffset }
+        ensures vacant { OpenGroupGivesOffset }
         ensures determined { Determined }
     {}
 }
@@ -42,9 +42,9 @@ impl ReservationAllocator {
 impl FrameAllocator for ReservationAllocator {
     ghost meaning = { reservation };
 
-    ghost within = { first_of (Prim.search rules, Prim.grind (arith, Self.row.coded.inj)) };
+    ghost within = { Prim.search rules };
 
-    ghost small = { first_of (Prim.search rules, Prim.grind (arith, Self.row.coded.inj)) };
+    ghost small = { Prim.search rules };
 
     fn allocate(&mut self, page: Page) -> Result<u32, AllocateFault> {
         let Some(choice) = self.choose(page) else {

@@ -1,5 +1,6 @@
--- What a slot for pages of one block holds after some of its offsets are cleared.
-use Rattle.std.specs.Prelude.{◌≡◌, ℕ, ◌+◌, ◌*◌, ◌/◌, ◌%◌, ◌^◌, Bool, true, false, cond, not, ◌&&◌, ◌⊎◌, Some, None, MatchBool, Option, ◌==◌, bit_and, nat_eq, refl}
+-- What a slot for pages of one block holds after some of its offsets are cleared. These are lemmas, and nothing to believe: an `impl` may
+-- cite the proof of its law only from here.
+use Rattle.std.specs.Prelude.{◌≡◌, ℕ, ◌+◌, ◌*◌, ◌/◌, ◌%◌, ◌^◌, Bool, true, false, cond, not, ◌&&◌, Some, None, MatchBool, Option, ◌==◌, bit_and, nat_eq, refl}
 use Rattle.std.proofs.Common.{sym, ap, ap₂, ◌∙◌, ⊎_elim, arith}
 use Rattle.std.proofs.lemmas.Nat.{and_shr, and_mod, and_mask}
 use Rattle.std.proofs.lemmas.Bool.{cases_Bool, both_ways, eqb-true, eqb-false, eq-eqb, ne_eqb, and_parts, and_from, not-false, cond-true, cond-false}

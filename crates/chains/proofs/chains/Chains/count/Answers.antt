@@ -1,4 +1,4 @@
-use Rattle.std.proofs.Common.{◌≡◌, ◌^◌, sym, ap, ◌∙◌}
+use Rattle.std.proofs.Common.{◌^◌, sym, ap, ◌∙◌}
 use mathlib.Core.Path.{fun_ext}
 use Rattle.chains.specs.Counting.{how_many}
 use Rattle.chains.proofs.Held.{held_some}

@@ -1,4 +1,4 @@
-use Rattle.std.proofs.Common.{◌≡◌, ◌+◌, length, ap, ◌∙◌, arith}
+use Rattle.std.proofs.Common.{◌≡◌, ◌+◌, length, ap, arith}
 use Rattle.words.specs.Layout.{bucket_of}
 use Rattle.chains.specs.Links.{walk}
 use Rattle.chains.specs.Nodes.{chain_from}

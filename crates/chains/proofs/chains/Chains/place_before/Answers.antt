@@ -1,4 +1,4 @@
-use Rattle.std.proofs.Common.{◌≡◌, ◌+◌, ◌<◌, sym, refl, ap, ◌∙◌, inl, inr, arith}
+use Rattle.std.proofs.Common.{sym, inl, inr, arith}
 use Rattle.chains.proofs.Held.{next_in, start, at_it, goes_on, ends, shorter, home}
 use Rattle.chains.proofs.chains.Chains.place_before.Goals as goal
 

@@ -1,4 +1,4 @@
-use Rattle.std.proofs.Common.{◌≡◌, ◌<◌, length, ◌∙◌, arith, length-set}
+use Rattle.std.proofs.Common.{◌≡◌, length, ◌∙◌, arith, length-set}
 use Rattle.chains.proofs.Changes.{pushed_sound, pushed_single, pushed_kept, pushed_near, push_room, pushed_nodes, pushed_held, pushed_puts}
 use Rattle.chains.proofs.Held.{no_node}
 use Rattle.chains.proofs.chains.Chains.push.Goals as goal

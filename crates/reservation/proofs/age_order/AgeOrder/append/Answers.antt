@@ -1,5 +1,4 @@
-use Rattle.std.proofs.Common.{true, set, ap, ◌∙◌, ap₂, arith}
-use Rattle.words.specs.Points.{at}
+use Rattle.std.proofs.Common.{set, ap, ◌∙◌, ap₂, arith}
 use Rattle.reservation.specs.Sets.{has}
 use Rattle.reservation.specs.Ages.{member}
 use Rattle.reservation.proofs.Ages.{placed_in}

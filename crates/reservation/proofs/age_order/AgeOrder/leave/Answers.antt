@@ -1,4 +1,4 @@
-use Rattle.std.proofs.Common.{◌≡◌, true, false, ◌&&◌, get_or, sym, refl, ap, ◌∙◌, ap₂}
+use Rattle.std.proofs.Common.{◌≡◌, true, false, ◌&&◌, sym, ap, ◌∙◌, ap₂}
 use Rattle.reservation.specs.Sets.{has}
 use Rattle.reservation.specs.Ages.{member, waits, place_of}
 use Rattle.reservation.proofs.Ages.{placed_in}

@@ -1,5 +1,4 @@
-use Rattle.std.proofs.Common.{◌≡◌, ℕ, sym, ap, ◌∙◌, subst, arith, MatchOption}
-use Rattle.words.specs.Layout.{bucket_of}
+use Rattle.std.proofs.Common.{sym, ap, ◌∙◌, subst, arith, MatchOption}
 use Rattle.reservation.specs.Index.{nth_has}
 use Rattle.reservation.specs.Sets.{FirstFrom, NoneFrom}
 use Rattle.reservation.proofs.Indexed.{nth_get}

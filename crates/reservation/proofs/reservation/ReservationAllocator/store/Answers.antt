@@ -1,8 +1,6 @@
-use Rattle.std.proofs.Common.{◌≡◌, ℕ, ◌<◌, true, eqb, length, sym, refl, ap, ◌∙◌, subst, ap₂, arith, length-set}
-use Rattle.words.specs.Points.{at}
-use Rattle.reservation.specs.declared.group.Group.{Group}
+use Rattle.std.proofs.Common.{◌≡◌, ℕ, ◌<◌, true, eqb, length, sym, refl, ◌∙◌, subst, arith, length-set}
 use Rattle.reservation.specs.Ages.{member, waits}
-use Rattle.reservation.specs.Groups.{is_open, is_spare, is_reserved, waits_in, has_in, bucket_use, same_block, nth_group}
+use Rattle.reservation.specs.Groups.{is_open, is_spare, is_reserved, waits_in, bucket_use, same_block}
 use Rattle.reservation.specs.Index.{in_bucket}
 use Rattle.reservation.specs.Reservation.{group_of}
 use Rattle.reservation.specs.Sets.{has}

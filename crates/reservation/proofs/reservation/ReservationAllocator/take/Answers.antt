@@ -1,9 +1,8 @@
 use Rattle.std.proofs.Common.{◌≡◌, ◌+◌, ◌*◌, true, sym, ap, ◌∙◌, subst, arith}
-use Rattle.reservation.specs.Groups.{OutAt, same_block}
-use Rattle.reservation.specs.Reservation.{group_of, group_stock, group_out, frame_at, UsedAs}
+use Rattle.reservation.specs.Reservation.{group_stock, group_out, frame_at, UsedAs}
 use Rattle.words.specs.Points.{at}
 use Rattle.reservation.proofs.Grouped.{group_read}
-use Rattle.reservation.proofs.Stored.{step_not_open, step_single, took, only_group, written, same_stock, frame_stock, frame_out, out_changed}
+use Rattle.reservation.proofs.Stored.{step_not_open, step_single, took, same_stock, frame_stock, frame_out, out_changed}
 use Rattle.reservation.proofs.reservation.ReservationAllocator.take.Goals as goal
 
 pub store-requires : goal.store-requires
