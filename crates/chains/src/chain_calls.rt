@@ -57,14 +57,14 @@ impl Chains {
     pub fn body(&self, node: u8) -> Body
         ensures { slice_get self.now.bodies node ≡ Some result }
     {
-        self.bodies[node as usize]
+        self.bodies[usize::from(node)]
     }
 
     // Writes what a node holds.
     pub fn replace(&mut self, node: u8, body: Body)
         ensures { Writes self.old node body self.new }
     {
-        self.bodies[node as usize] = body;
+        self.bodies[usize::from(node)] = body;
     }
 
     // Writes what is held of the block, on a new node where it has none.
