@@ -1,5 +1,6 @@
 -- What the attributes of a page allow.
-use Rattle.std.specs.Prelude.{ℕ, ◌^◌, Bool}
+use Rattle.std.specs.Prelude.{◌≡◌, ℕ, ◌^◌, Bool, MatchResult, Result, ◌≢◌}
+use Rattle.words.specs.declared.fault.BadNumber.{BadNumber}
 use Rattle.words.specs.declared.access.Access.{Access}
 use Rattle.words.specs.declared.access.Access.TheVariants.{Read, Write, Execute}
 use Rattle.words.specs.Layout.{bit}
@@ -16,3 +17,7 @@ access_number x = 2 ^ access_bit x
 
 abbrev pub allowed : ℕ → Access → Bool
 allowed a x = bit a (access_bit x)
+
+-- the access of a number, where there is one
+abbrev pub NumbersAccess : ℕ → Result Access BadNumber → Type 0
+NumbersAccess n r = MatchResult r (λ x. access_number x ≡ n) (λ _. (x : Access) → access_number x ≢ n)

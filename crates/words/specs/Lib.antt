@@ -2,6 +2,7 @@ pub mod Made
 pub mod Points
 pub mod Layout
 pub mod Access
+pub mod Faults
 pub mod Reading
 pub mod Words
 pub mod Blocks

@@ -1,21 +1,22 @@
 -- What a mapping word says of the pages of its block.
-use Rattle.std.specs.Prelude.{ℕ, ◌+◌, ◌*◌, ◌%◌, ◌^◌, Bool, cond, ◌&&◌, Some, None, Ok, Err, Option, Result, ◌==◌, nat_le}
+use Rattle.std.specs.Prelude.{◌≡◌, ℕ, ◌+◌, ◌*◌, ◌%◌, ◌^◌, Bool, cond, ◌&&◌, Some, None, Ok, Err, MatchResult, Option, Result, ◌≢◌, ◌==◌, nat_le}
 use Rattle.std.proofs.Common.{mod-lt, lit<}
 use Rattle.words.specs.declared.translation.Translation.{Translation}
+use Rattle.words.specs.declared.fault.BadNumber.{BadNumber}
 use Rattle.words.specs.declared.fault.ReadFault.{ReadFault}
 use Rattle.words.specs.declared.fault.ReadFault.TheVariants.{BadWord, NotMapped}
 use Rattle.words.specs.declared.form.Form.{Form}
 use Rattle.words.specs.declared.form.Form.TheVariants as form
+use Rattle.words.specs.Faults.{read_fault_number}
 use Rattle.words.specs.Layout.{offset_of, bit, offsets_in, frame_block_in, attributes_in, frame_in, is_compact, is_full}
 
 abbrev pub form_number : Form → ℕ
 form_number form.Compact = 1
 form_number form.Full = 2
 
--- no form, word and offset that go together; the page is not in the word
-abbrev pub read_fault_number : ReadFault → ℕ
-read_fault_number BadWord = 17
-read_fault_number NotMapped = 9
+-- the form of a number, where there is one
+abbrev pub NumbersForm : ℕ → Result Form BadNumber → Type 0
+NumbersForm n r = MatchResult r (λ f. form_number f ≡ n) (λ _. (f : Form) → form_number f ≢ n)
 
 abbrev pub is_word : Form → ℕ → Bool
 is_word form.Compact w = is_compact w

@@ -1,23 +1,25 @@
 // The parts of a 64-bit address: its page, and the page's block and offset.
-ghost use Rattle.std.specs.Prelude.{◌≡◌, ◌^◌, ◌<◌, ◌≤◌, MatchOption};
-ghost use Rattle.words.specs.Layout.{page_of, block_of, offset_of, bucket_of, page_at};
+ghost use Rattle.std.specs.Prelude.{◌≡◌, ◌^◌, ◌<◌, ◌≤◌, MatchResult};
+ghost use Rattle.words.specs.Layout.{page_of, block_of, offset_of, bucket_of, page_at, bit};
+
+use crate::fault::BadNumber;
 
 // A page of 4,096 bytes, by its number.
-#[derive(Clone, Copy)]
+#[derive(Clone, Copy, PartialEq, Eq, Debug)]
 pub struct Page {
     pub number: u64,
     ghost within: { number < 2 ^ 52 },
 }
 
 // Sixteen consecutive pages, by their common number: page div 16.
-#[derive(Clone, Copy)]
+#[derive(Clone, Copy, PartialEq, Eq, Debug)]
 pub struct Block {
     pub number: u64,
     ghost within: { number < 2 ^ 48 },
 }
 
 // Which of the sixteen pages of a block: page mod 16.
-#[derive(Clone, Copy)]
+#[derive(Clone, Copy, PartialEq, Eq, Debug)]
 pub struct Offset {
     pub number: u8,
     ghost within: { number < 16 },
@@ -29,17 +31,6 @@ impl Page {
     {
         Page {
             number: address / 4096,
-        }
-    }
-
-    // The page of a number; none where it is 2^52 or more.
-    pub fn new(number: u64) -> Option<Page>
-        ensures { MatchOption result (2 ^ 52 ≤ number) (λ p. p.number ≡ number) }
-    {
-        if number < 0x10_0000_0000_0000 {
-            Some(Page { number })
-        } else {
-            None
         }
     }
 
@@ -57,6 +48,20 @@ impl Page {
         Offset {
             number: (self.number % 16) as u8,
         }
+    }
+}
+
+// There is no page of a number of 2^52 or more.
+impl TryFrom<u64> for Page {
+    type Error = BadNumber;
+
+    ghost try_from_gives = { λ n r. MatchResult r (λ p. p.number ≡ n) (λ _. 2 ^ 52 ≤ n) };
+
+    fn try_from(number: u64) -> Result<Page, BadNumber> {
+        if number >= 0x10_0000_0000_0000 {
+            return Err(BadNumber);
+        }
+        Ok(Page { number })
     }
 }
 
@@ -78,23 +83,33 @@ impl Block {
 }
 
 impl Offset {
-    // The offset of a number; none where it is 16 or more.
-    pub fn new(number: u64) -> Option<Offset>
-        ensures { MatchOption result (16 ≤ number) (λ o. o.number ≡ number) }
-    {
-        if number < 16 {
-            Some(Offset {
-                number: number as u8,
-            })
-        } else {
-            None
-        }
-    }
-
     // The number with just the offset's bit.
     pub fn bit(self) -> u16
         ensures { result ≡ 2 ^ self.number }
     {
         1 << self.number
+    }
+
+    // Whether the offset is one of those whose bits are set.
+    pub fn is_in(self, offsets: u16) -> bool
+        ensures { result ≡ bit offsets self.number }
+    {
+        (offsets >> self.number) % 2 == 1
+    }
+}
+
+// There is no offset of a number of 16 or more.
+impl TryFrom<u64> for Offset {
+    type Error = BadNumber;
+
+    ghost try_from_gives = { λ n r. MatchResult r (λ o. o.number ≡ n) (λ _. 16 ≤ n) };
+
+    fn try_from(number: u64) -> Result<Offset, BadNumber> {
+        if number >= 16 {
+            return Err(BadNumber);
+        }
+        Ok(Offset {
+            number: number as u8,
+        })
     }
 }

@@ -9,7 +9,7 @@ use crate::address::Offset;
 use crate::parts::translation_of;
 use crate::translation::Translation;
 
-#[derive(Clone, Copy)]
+#[derive(Clone, Copy, PartialEq, Eq, Debug)]
 pub struct CompactWord {
     pub bits: u64,
     ghost sound: { is_compact bits ≡ true },
@@ -76,7 +76,7 @@ impl CompactWord {
     fn has(self, offset: Offset) -> bool
         ensures { result ≡ bit (offsets_in self.bits) offset.number }
     {
-        (self.bits / 0x1_0000_0000_0000 >> offset.number) % 2 == 1
+        offset.is_in(self.offsets())
     }
 
     // What the page at an offset is mapped to.

@@ -1,33 +1,38 @@
 // The two forms of a mapping word: a compact word speaks of a whole block, a full word of one page.
-ghost use Rattle.std.specs.Prelude.{◌≡◌, MatchOption, ◌≢◌};
-ghost use Rattle.words.specs.Reading.{form_number};
-ghost use Rattle.words.specs.declared.form.Form.{Form as Shape};
+ghost use Rattle.std.specs.Prelude.{◌≡◌};
+ghost use Rattle.words.specs.Reading.{form_number, NumbersForm};
 
-#[derive(Clone, Copy)]
+use crate::fault::BadNumber;
+
+#[derive(Clone, Copy, PartialEq, Eq, Debug)]
 pub enum Form {
     Compact,
     Full,
 }
 
-impl Form {
-    // 1 for compact, 2 for full.
-    pub fn number(self) -> u64
-        ensures { result ≡ form_number self }
-    {
-        match self {
+// 1 for compact, 2 for full.
+impl From<Form> for u64 {
+    ghost from_gives = { λ form n. n ≡ form_number form };
+
+    fn from(form: Form) -> u64 {
+        match form {
             Form::Compact => 1,
             Form::Full => 2,
         }
     }
+}
 
-    // The form of a number; none for any number but 1 and 2.
-    pub fn from_number(number: u64) -> Option<Form>
-        ensures { MatchOption result ((f : Shape) → form_number f ≢ number) (λ f. form_number f ≡ number) }
-    {
+// There is no form of any number but 1 and 2.
+impl TryFrom<u64> for Form {
+    type Error = BadNumber;
+
+    ghost try_from_gives = { NumbersForm };
+
+    fn try_from(number: u64) -> Result<Form, BadNumber> {
         match number {
-            1 => Some(Form::Compact),
-            2 => Some(Form::Full),
-            _ => None,
+            1 => Ok(Form::Compact),
+            2 => Ok(Form::Full),
+            _ => Err(BadNumber),
         }
     }
 }

@@ -8,7 +8,7 @@ ghost use Rattle.words.specs.declared.form.Form.TheVariants as shape;
 use crate::parts::translation_of;
 use crate::translation::Translation;
 
-#[derive(Clone, Copy)]
+#[derive(Clone, Copy, PartialEq, Eq, Debug)]
 pub struct FullWord {
     pub bits: u64,
     ghost sound: { is_full bits ≡ true },

@@ -16,7 +16,7 @@ mod word;
 pub use access::Access;
 pub use address::{Block, Offset, Page};
 pub use compact::CompactWord;
-pub use fault::ReadFault;
+pub use fault::{BadNumber, ReadFault};
 pub use form::Form;
 pub use full::FullWord;
 pub use laws::{accepted_are_values, one_word_for_a_page, same_word_same_pages, worked_values};

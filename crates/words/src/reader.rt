@@ -1,7 +1,7 @@
 // The word reader: what a form, a word and an offset, as plain numbers, say of a page.
 ghost use Rattle.std.specs.Prelude.{◌≡◌};
 ghost use Rattle.words.specs.Laws.{Tells};
-ghost use Rattle.words.specs.Reading.{reading, answer_number, read_fault_number};
+ghost use Rattle.words.specs.Reading.{reading, answer_number};
 
 use crate::address::Offset;
 use crate::fault::ReadFault;
@@ -12,25 +12,12 @@ use crate::word::Word;
 // A refusal is this number plus the fault's.
 const REFUSED: u64 = 0x8000_0000_0000_0000;
 
-impl ReadFault {
-    pub fn number(self) -> u64
-        ensures { result ≡ read_fault_number self }
-    {
-        match self {
-            ReadFault::BadWord => 17,
-            ReadFault::NotMapped => 9,
-        }
-    }
-}
-
 pub fn read_word(form: u64, word: u64, offset: u64) -> Result<Translation, ReadFault>
     ensures { result ≡ reading form word offset }
 {
-    let Some(form) = Form::from_number(form) else {
-        return Err(ReadFault::BadWord);
-    };
+    let form = Form::try_from(form)?;
     let word = Word::from_bits(form, word).ok_or(ReadFault::BadWord)?;
-    let offset = Offset::new(offset).ok_or(ReadFault::BadWord)?;
+    let offset = Offset::try_from(offset)?;
     word.read(offset).ok_or(ReadFault::NotMapped)
 }
 
@@ -40,7 +27,7 @@ fn encoded(answer: Result<Translation, ReadFault>) -> u64
 {
     match answer {
         Ok(translation) => u64::from(translation.frame) * 4096 + u64::from(translation.attributes),
-        Err(fault) => REFUSED + fault.number(),
+        Err(fault) => REFUSED + u64::from(fault),
     }
 }
 

@@ -10,7 +10,7 @@ use crate::form::Form;
 use crate::full::FullWord;
 use crate::translation::Translation;
 
-#[derive(Clone, Copy)]
+#[derive(Clone, Copy, PartialEq, Eq, Debug)]
 pub enum Word {
     Compact(CompactWord),
     Full(FullWord),

@@ -4,8 +4,8 @@ use Rattle.words.specs.declared.form.Form.TheVariants as form
 use Rattle.words.proofs.reader.read_word.Goals as goal
 
 -- a number that no form has is neither 1 nor 2
-pub returns-in_default : goal.returns-in_default
-returns-in_default c =
-    let one : eqb c.args.form 1 ≡ false = ne_eqb _ 1 (λ e. c.in_default.ensures form.Compact (sym e)) in
-    let two : eqb c.args.form 2 ≡ false = ne_eqb _ 2 (λ e. c.in_default.ensures form.Full (sym e)) in
+pub returns-in_err-form : goal.returns-in_err-form
+returns-in_err-form c =
+    let one : eqb c.args.form 1 ≡ false = ne_eqb _ 1 (λ e. c.in_err-form.ensures form.Compact (sym e)) in
+    let two : eqb c.args.form 2 ≡ false = ne_eqb _ 2 (λ e. c.in_err-form.ensures form.Full (sym e)) in
     search rules
