@@ -1,3 +1,4 @@
 pub mod Cutting
+pub mod Finding
 pub mod Reading
 pub mod Following

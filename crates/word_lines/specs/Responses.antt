@@ -1,25 +1,19 @@
 -- What a line gets, and how it is written.
-use Rattle.std.specs.Prelude.{ℕ, ◌+◌, ◌*◌, cond, List, [], ◌∷◌, ◌++◌, Some, None, Ok, Err, codes, decimal, Option, Result}
-use Rattle.words.specs.declared.fault.ReadFault.{ReadFault}
-use Rattle.words.specs.declared.fault.ReadFault.TheVariants.{BadWord, NotMapped}
+use Rattle.std.specs.Prelude.{ℕ, ◌+◌, ◌*◌, cond, List, [], ◌∷◌, ◌++◌, Some, None, Ok, Err, codes, decimal, Option}
 use Rattle.words.specs.declared.access.Access.{Access}
 use Rattle.words.specs.declared.access.Access.TheVariants.{Read, Write, Execute}
-use Rattle.words.specs.declared.translation.Translation.{Translation}
 use Rattle.words.specs.Access.{allowed}
-use Rattle.words.specs.Reading.{reading, read_fault_number}
+use Rattle.words.specs.Faults.{read_fault_number, reason}
+use Rattle.words.specs.Reading.{reading}
 use Rattle.word_lines.specs.declared.query.Query.{Query}
 use Rattle.word_lines.specs.declared.response.Response.{Response}
-use Rattle.word_lines.specs.declared.response.Response.TheVariants.{Mapped, Refused, Malformed}
+use Rattle.word_lines.specs.declared.response.Response.TheVariants.{Answer, Malformed}
 use Rattle.word_lines.specs.Pieces.{lines_of}
 use Rattle.word_lines.specs.Queries.{query_of}
 
-abbrev pub answer : Result Translation ReadFault → Response
-answer (Ok t) = Mapped t
-answer (Err e) = Refused e
-
 -- a query gets what the word reader says, and a line that is no query its own number
 abbrev pub response_to : ℕ → Option Query → Response
-response_to n (Some q) = answer (reading q.form q.word q.offset)
+response_to n (Some q) = Answer (reading q.form q.word q.offset)
 response_to n None = Malformed n
 
 abbrev pub response : ℕ → List ℕ → Response
@@ -34,15 +28,11 @@ letter_of Execute = codes "x"
 abbrev pub letter : ℕ → Access → List ℕ
 letter a x = cond (allowed a x) (letter_of x) (codes "-")
 
-abbrev pub reason : ReadFault → List ℕ
-reason NotMapped = codes "the page is not in the word"
-reason BadWord = codes "no such form or offset, or no word of that form"
-
 abbrev pub response_text : Response → List ℕ
-response_text (Mapped t) =
+response_text (Answer (Ok t)) =
     codes "frame " ++ (decimal t.frame ++ (codes " address " ++ (decimal (t.frame * 4096)
     ++ (codes " attributes " ++ (decimal t.attributes ++ (codes " " ++ (letter t.attributes Read ++ (letter t.attributes Write ++ letter t.attributes Execute))))))))
-response_text (Refused e) = codes "refused " ++ (decimal (read_fault_number e) ++ (codes ": " ++ reason e))
+response_text (Answer (Err e)) = codes "refused " ++ (decimal (read_fault_number e) ++ (codes ": " ++ reason e))
 response_text (Malformed n) = codes "line " ++ (decimal n ++ codes ": not a form, a word in hexadecimal and an offset")
 
 -- a line feed after each response; lines are numbered on from n

@@ -1,8 +1,8 @@
 // The lines of a text, and the fields of a line: pieces of bytes between separators.
-ghost use Rattle.std.specs.Prelude.{◌≡◌, ◌<◌, not, length, OnSome};
+ghost use Rattle.std.specs.Prelude.{◌≡◌, not, length};
+ghost use Rattle.std.specs.Iterator.{at_most, YieldsFirstRef};
 ghost use Rattle.std.specs.List.{prefix_len};
 ghost use Rattle.word_lines.specs.Pieces.{separates};
-ghost use Rattle.word_lines.specs.Walk.{pieces_left, fields_left, Steps};
 
 // What ends a piece: a line feed ends a line, a blank a field.
 #[derive(Clone, Copy)]
@@ -25,16 +25,14 @@ impl Separator {
     fn piece_len(self, bytes: &[u8]) -> usize
         ensures { result ≡ prefix_len (λ b. not (separates self b)) bytes.now }
     {
-        for (i, byte) in bytes.iter().enumerate() {
-            if self.separates(*byte) {
-                return i;
-            }
-        }
-        bytes.len()
+        bytes
+            .iter()
+            .position(|byte| self.separates(*byte))
+            .unwrap_or(bytes.len())
     }
 }
 
-// Hands out the pieces of a text one by one.
+// Hands out the pieces of a text one by one; a piece may be empty.
 #[derive(Drop)]
 pub struct Pieces<'a> {
     rest: &'a [u8],
@@ -51,13 +49,18 @@ impl<'a> Pieces<'a> {
             separator,
         }
     }
+}
 
-    // The next piece, which may be empty.
-    pub fn next(&mut self) -> Option<&'a [u8]>
-        ensures by { self.new.separator ≡ self.old.separator }
-        ensures steps { Steps (pieces_left self.old) result (pieces_left self.new) }
-        ensures less { OnSome result (length self.new.rest.now < length self.old.rest.now) }
-    {
+impl<'a> Iterator for Pieces<'a> {
+    ghost use Rattle.word_lines.specs.Walk.{pieces_left};
+
+    type Item = &'a [u8];
+
+    ghost next_gives = { YieldsFirstRef pieces_left };
+
+    ghost remaining = { λ s. at_most (length s.rest.now) };
+
+    fn next(&mut self) -> Option<&'a [u8]> {
         if self.rest.is_empty() {
             return None;
         }
@@ -68,16 +71,37 @@ impl<'a> Pieces<'a> {
         };
         Some(piece)
     }
+}
 
-    // The next piece that is not empty.
-    pub fn next_field(&mut self) -> Option<&'a [u8]>
-        ensures { Steps (fields_left self.old) result (fields_left self.new) }
+// Hands out the fields of a line: its pieces between blanks that are not empty.
+#[derive(Drop)]
+pub struct Fields<'a> {
+    pieces: Pieces<'a>,
+}
+
+impl<'a> Fields<'a> {
+    ghost use Rattle.word_lines.specs.Pieces.{fields_of};
+    ghost use Rattle.word_lines.specs.Walk.{fields_left};
+
+    pub fn new(line: &'a [u8]) -> Fields<'a>
+        ensures { fields_left result ≡ fields_of line.now }
     {
-        while let Some(piece) = self.next() {
-            if !piece.is_empty() {
-                return Some(piece);
-            }
+        Fields {
+            pieces: Pieces::new(line, Separator::Blank),
         }
-        None
+    }
+}
+
+impl<'a> Iterator for Fields<'a> {
+    ghost use Rattle.word_lines.specs.Walk.{fields_left};
+
+    type Item = &'a [u8];
+
+    ghost next_gives = { YieldsFirstRef fields_left };
+
+    ghost remaining = { λ s. at_most (length s.pieces.rest.now) };
+
+    fn next(&mut self) -> Option<&'a [u8]> {
+        self.pieces.find(|piece| !piece.is_empty())
     }
 }

@@ -3,7 +3,7 @@ ghost use Rattle.std.specs.Prelude.{◌≡◌};
 ghost use Rattle.word_lines.specs.Queries.{query_of};
 
 use crate::numeral::{decimal, hexadecimal};
-use crate::pieces::{Pieces, Separator};
+use crate::pieces::Fields;
 
 #[derive(Clone, Copy, PartialEq, Eq, Debug)]
 pub struct Query {
@@ -16,11 +16,11 @@ pub struct Query {
 pub fn parse_line(line: &[u8]) -> Option<Query>
     ensures { result ≡ query_of line.now }
 {
-    let mut fields = Pieces::new(line, Separator::Blank);
-    let form = decimal(fields.next_field()?)?;
-    let word = hexadecimal(fields.next_field()?)?;
-    let offset = decimal(fields.next_field()?)?;
-    match fields.next_field() {
+    let mut fields = Fields::new(line);
+    let form = decimal(fields.next()?)?;
+    let word = hexadecimal(fields.next()?)?;
+    let offset = decimal(fields.next()?)?;
+    match fields.next() {
         None => Some(Query { form, word, offset }),
         Some(_) => None,
     }

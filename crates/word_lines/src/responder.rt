@@ -11,15 +11,9 @@ pub fn respond(heap: Global, input: &[u8]) -> Result<String, AllocError>
     ensures { IfOk result (λ text. string_bytes text ≡ responses_to input.now) }
 {
     let mut text = String::new(heap);
-    let mut lines = Pieces::new(input, Separator::LineFeed);
-    let mut number = 1u64;
-    while let Some(line) = lines.next() {
-        let response = Response::to_line(number, line);
-        // Writing to a string fails for want of memory only.
-        let Ok(()) = writeln!(text, "{response}") else {
-            return Err(AllocError);
-        };
-        number += 1;
+    for (i, line) in Pieces::new(input, Separator::LineFeed).enumerate() {
+        let response = Response::to_line(i as u64 + 1, line);
+        writeln!(text, "{response}")?;
     }
     Ok(text)
 }

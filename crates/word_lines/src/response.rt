@@ -1,6 +1,6 @@
 // What a line gets, and how it is written.
 ghost use Rattle.std.specs.Prelude.{◌≡◌, Some};
-ghost use Rattle.word_lines.specs.Responses.{letter, reason, response, response_text};
+ghost use Rattle.word_lines.specs.Responses.{letter, response, response_text};
 
 use crate::query::parse_line;
 use std::fmt;
@@ -8,8 +8,8 @@ use words::{Access, ReadFault, Translation, read_word};
 
 #[derive(Clone, Copy)]
 pub enum Response {
-    Mapped(Translation),
-    Refused(ReadFault),
+    // What the word reader says.
+    Answer(Result<Translation, ReadFault>),
     // The line asks nothing: its number, from 1.
     Malformed(u64),
 }
@@ -22,10 +22,7 @@ impl Response {
         let Some(query) = parse_line(line) else {
             return Response::Malformed(number);
         };
-        match read_word(query.form, query.word, query.offset) {
-            Ok(translation) => Response::Mapped(translation),
-            Err(fault) => Response::Refused(fault),
-        }
+        Response::Answer(read_word(query.form, query.word, query.offset))
     }
 }
 
@@ -43,22 +40,12 @@ fn letter_of(translation: Translation, access: Access) -> &'static str
     }
 }
 
-// Why there is no translation, in words.
-fn reason_of(fault: ReadFault) -> &'static str
-    ensures { result.now ≡ reason fault }
-{
-    match fault {
-        ReadFault::NotMapped => "the page is not in the word",
-        ReadFault::BadWord => "no such form or offset, or no word of that form",
-    }
-}
-
 impl fmt::Display for Response {
     ghost output = { λ r. Some (response_text r) };
 
     fn fmt<W: fmt::Write>(&self, f: &mut fmt::Formatter<W>) -> fmt::Result {
         match self {
-            Response::Mapped(translation) => {
+            Response::Answer(Ok(translation)) => {
                 let frame = translation.frame;
                 let address = u64::from(frame) * 4096;
                 let attributes = translation.attributes;
@@ -70,10 +57,9 @@ impl fmt::Display for Response {
                     "frame {frame} address {address} attributes {attributes} {read}{write}{execute}"
                 )
             }
-            Response::Refused(fault) => {
-                let number = fault.number();
-                let reason = reason_of(*fault);
-                write!(f, "refused {number}: {reason}")
+            Response::Answer(Err(fault)) => {
+                let number = u64::from(*fault);
+                write!(f, "refused {number}: {fault}")
             }
             Response::Malformed(number) => {
                 write!(

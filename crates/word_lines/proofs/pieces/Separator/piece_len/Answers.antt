@@ -1,21 +1,11 @@
-use Rattle.std.proofs.Common.{◌≡◌, ◌+◌, drop, sym, arith}
-use Rattle.std.proofs.lemmas.List.Sums.{prefix_len-drop_no, prefix_len-drop_yes, prefix_len-drop_all}
-use Rattle.std.proofs.lemmas.Bool.{not_from_true, not_from_false}
-use Rattle.word_lines.proofs.Cutting.{before}
+use Rattle.std.proofs.Common.{rules, tests}
+use Rattle.std.proofs.lemmas.Iterator.{YieldsList-from_slice}
+use Rattle.std.proofs.lemmas.Iterator.Search.{position_from_yields_List}
+use Rattle.word_lines.specs.Pieces.{separates}
+use Rattle.word_lines.proofs.Finding.{place_or_all}
 use Rattle.word_lines.proofs.pieces.Separator.piece_len.Goals as goal
-
-pub returns-then-separates : goal.returns-then-separates
-returns-then-separates c =
-    let z : before c.args.self (drop c.loop-i.i c.args.bytes.now) ≡ 0 = prefix_len-drop_no _ c.args.bytes.now c.loop-i.i 0 c.loop-i-test.true (not_from_true _ (sym c.if-separates.ensures)) in
-    omega (arith, c.loop-i.invariant)
-
-pub loop-i-preserved : goal.loop-i-preserved
-loop-i-preserved c =
-    let z : before c.args.self (drop c.loop-i.i c.args.bytes.now) ≡ 1 + before c.args.self (drop (c.loop-i.i + 1) c.args.bytes.now)
-    = prefix_len-drop_yes _ c.args.bytes.now c.loop-i.i 0 c.loop-i-test.true (not_from_false _ (sym c.if-separates.ensures)) in
-    omega (arith, c.loop-i.invariant)
 
 pub returns : goal.returns
 returns c =
-    let z : before c.args.self (drop c.loop-i.i c.args.bytes.now) ≡ 0 = prefix_len-drop_all _ c.args.bytes.now c.loop-i.i c.loop-i-test.false in
-    omega (arith, c.loop-i.invariant)
+    let first = position_from_yields_List (separates c.args.self) _ _ c.position.result c.position.ensures.ran (YieldsList-from_slice c.args.bytes.now cc) (λ x b q k. search (rules, tests)) in
+    place_or_all (separates c.args.self) c.args.bytes.now c.position.result _ first c.unwrap_or.ensures
