@@ -1,257 +1,353 @@
 -- What is held of each block after a body is written, a node linked, or a node unlinked.
-use Rattle.std.proofs.Common.{◌≡◌, ℕ, ◌+◌, ◌^◌, ◌<◌, ◌≤◌, Bool, true, false, cond, ltb, ◌⊎◌, List, [], length, set, Some, None, sym, refl, ap, ◌∙◌, subst, ap₂, inl, inr, ⊎_elim, arith, length-set, MatchOption}
+use Rattle.std.proofs.Common.{is_some, option_and_then, ◌≡◌, ℕ, ◌+◌, ◌^◌, ◌<◌, ◌≤◌, true, false, cond, ltb, ◌⊎◌, List, [], length, get_or, set, Some, None, Option, sym, refl, ap, ◌∙◌, subst, ap₂, inl, inr, ⊎_elim, arith, length-set, MatchOption}
 use mathlib.Core.Path.{fun_ext}
-use Rattle.std.proofs.lemmas.Option.{slice_get_past}
-use Rattle.std.proofs.lemmas.Bool.{cases_eq, cases_Bool, both_ways, lt-ltb, le-ltb, cond-true, cond-false}
+use Rattle.std.proofs.lemmas.Option.{slice_get_past, slice_get-get_or}
+use Rattle.std.proofs.lemmas.Bool.{cases_eq, cases_Bool, both_ways, lt-ltb, le-ltb, cond-false}
 use Rattle.std.specs.List.{slice_get}
+use Rattle.std.specs.Option.{option_map}
 use Rattle.words.specs.Layout.{bucket_of}
 use Rattle.words.specs.Points.{at}
+use Rattle.words.specs.declared.address.Block.{Block}
 use Rattle.chains.specs.declared.chains.Chains.{Chains}
 use Rattle.chains.specs.declared.node.Body.{Body}
-use Rattle.chains.specs.Chains.{node_of, body_of, block_of_node, Before}
+use Rattle.chains.specs.declared.node.Node.{Node}
+use Rattle.chains.specs.declared.node.Way.{Way}
+use Rattle.chains.specs.Chains.{node_of, body_of, block_of_node, Leads}
 use Rattle.chains.specs.Counting.{how_many}
 use Rattle.chains.specs.Links.{on}
-use Rattle.chains.specs.Nodes.{link_at, block_at, flag_at, home_of, chain_from, node_for, is_held, Sound, Single, Kept, Near, Holds, NoTwice, NoneLost}
+use Rattle.chains.specs.Blocks.{block_number}
+use Rattle.chains.specs.Nodes.{link_number, link_at, owner, is_linked, block_at, home_of, home_at, chain_from, node_for, is_held, Sound, Single, Kept, Holds, NoTwice, NoneLost}
 use Rattle.chains.proofs.Counts.{one, many_at, many_all, many_less}
 use Rattle.chains.proofs.Cut.{on_not_off}
-use Rattle.chains.proofs.Held.{next_in, home_in, block_in, home_most, no_flag_of_home, node_of_block, block_of_linked, get_d_at, nth_at}
-use Rattle.chains.proofs.Linking.{at_here, at_there, push_next, push_home, push_block, push_sound, push_single, push_kept, push_here, push_others, cut_next, cut_home, cut_sound, cut_single, cut_kept, cut_others, cut_gone}
+use Rattle.chains.proofs.Held.{at_same, next_in, no_node, home_in, block_in, home_most, no_flag_of_home, node_of_block, block_of_linked, at_map, link_set, owner_set, nth_at}
+use Rattle.chains.proofs.Linking.{at_here, at_there, push_next, push_home, push_block, push_sound, push_single, push_kept, push_here, push_others, cut_next, cut_home, cut_block, cut_sound, cut_single, cut_kept, cut_others, cut_gone}
 use Rattle.chains.proofs.Steps.{step, over}
 
--- a body is written on the node i
-rewritten_at : (c : Chains) (i : ℕ) (y : Body) → i < 256 → (b : ℕ) → (node_of c b ≡ i → ⊥) → slice_get (set c.bodies i y) (node_of c b) ≡ body_of c b
-rewritten_at c i y l b ne = let w = c.wide in ap (λ f. f (node_of c b)) (nth_at c.bodies i y (omega arith)) ∙ at_there (slice_get c.bodies) i (Some y) (node_of c b) ne
+-- the body of a node as a function of its place
+abbrev pub bodies : List Node → ℕ → Option Body
+bodies ns i = option_map (λ (n : Node). n.body) (slice_get ns i)
 
-pub rewritten : (c : Chains) (i : ℕ) (y : Body) → i < 256 → MatchOption (block_of_node c i) ((λ b. slice_get (set c.bodies i y) (node_of c b)) ≡ body_of c) (λ d. (λ b. slice_get (set c.bodies i y) (node_of c b)) ≡ at (body_of c) d (Some y))
-rewritten c i y l = ⊎_elim
-    (λ t. subst (λ o. MatchOption o ((λ b. slice_get (set c.bodies i y) (node_of c b)) ≡ body_of c) (λ d. (λ b. slice_get (set c.bodies i y) (node_of c b)) ≡ at (body_of c) d (Some y))) (sym (cond-true (flag_at c.linked i) (Some (block_in c i)) None t)) (fun_ext (λ b. ⊎_elim
-    (λ e. let w = c.wide in
-    ap (λ f. f (node_of c b)) (nth_at c.bodies i y (omega arith)) ∙ at_here (slice_get c.bodies) i (Some y) (node_of c b) (ap (node_of c) e ∙ block_of_linked c i l t)
-    ∙ sym (at_here (body_of c) (block_in c i) (Some y) b e))
-    (λ ne. rewritten_at c i y l b (λ e. ne (sym (node_of_block c b (omega arith)).1 ∙ ap (block_in c) e)) ∙ sym (at_there (body_of c) (block_in c i) (Some y) b ne))
-    (cases_eq b (block_in c i)))))
-    (λ f. subst (λ o. MatchOption o ((λ b. slice_get (set c.bodies i y) (node_of c b)) ≡ body_of c) (λ d. (λ b. slice_get (set c.bodies i y) (node_of c b)) ≡ at (body_of c) d (Some y))) (sym (cond-false (flag_at c.linked i) (Some (block_in c i)) None f))
-    (fun_ext (λ b. rewritten_at c i y l b (λ e. both_ways _ f (ap (flag_at c.linked) (sym e) ∙ (node_of_block c b (omega arith)).0)))))
-    (cases_Bool (flag_at c.linked i))
+pub bodies_set : (ns : List Node) (i : ℕ) (n : Node) → i < length ns → bodies (set ns i n) ≡ at (bodies ns) i (Some n.body)
+bodies_set ns i n l = ap (λ f k. option_map (λ (m : Node). m.body) (f k)) (nth_at ns i n l) ∙ at_map (option_map (λ (m : Node). m.body)) (slice_get ns) i (Some n)
+
+-- a node that is written, seen by its block
+module _ (ns : List Node) (i : ℕ) (n : Node) (l : i < length ns) where
+  pub linked_set : is_linked (set ns i n) ≡ at (is_linked ns) i (is_some n.block)
+  linked_set = ap (λ f k. is_some (f k)) (owner_set ns i n l) ∙ at_map is_some (owner ns) i n.block
+
+  pub blocks_set : block_at (set ns i n) ≡ at (block_at ns) i (block_number n.block)
+  blocks_set = ap (λ f k. block_number (f k)) (owner_set ns i n l) ∙ at_map block_number (owner ns) i n.block
+
+  -- and by the chain where it is at home
+  pub homes_set : home_at (set ns i n) ≡ at (home_at ns) i (cond (is_some n.block) (bucket_of (block_number n.block)) 64)
+  homes_set = ap₂ home_of blocks_set linked_set ∙ fun_ext (λ k. ⊎_elim
+      (λ e. ap₂ (λ x y. cond x (bucket_of y) 64) (at_here (is_linked ns) i (is_some n.block) k e) (at_here (block_at ns) i (block_number n.block) k e) ∙ sym (at_here (home_at ns) i _ k e))
+      (λ ne. ap₂ (λ x y. cond x (bucket_of y) 64) (at_there (is_linked ns) i (is_some n.block) k ne) (at_there (block_at ns) i (block_number n.block) k ne) ∙ sym (at_there (home_at ns) i _ k ne))
+      (cases_eq k i))
+
+-- the block of a linked node
+pub owned : (o : Option Block) → is_some o ≡ true → option_map (λ (k : Block). k.number) o ≡ Some (block_number o)
+owned (Some k) t = refl
+owned None t = absurd (both_ways false refl t)
+
+pub unowned : (o : Option Block) → is_some o ≡ false → option_map (λ (k : Block). k.number) o ≡ None
+unowned (Some k) f = absurd (both_ways true f refl)
+unowned None f = refl
+
+-- a body is written on the node i
+module _ (c : Chains) (i : ℕ) (n : Node) (l : i < 256) where
+  apart : (b : ℕ) → (node_of c b ≡ i → ⊥) → bodies (set c.nodes i n) (node_of c b) ≡ body_of c b
+  apart b ne = let w = c.wide in ap (λ f. f (node_of c b)) (bodies_set c.nodes i n (omega arith)) ∙ at_there (bodies c.nodes) i (Some n.body) (node_of c b) ne
+
+  pub rewritten : MatchOption (block_of_node c i) ((λ b. bodies (set c.nodes i n) (node_of c b)) ≡ body_of c) (λ d. (λ b. bodies (set c.nodes i n) (node_of c b)) ≡ at (body_of c) d (Some n.body))
+  rewritten = ⊎_elim
+      (λ t. subst (λ o. MatchOption o ((λ b. bodies (set c.nodes i n) (node_of c b)) ≡ body_of c) (λ d. (λ b. bodies (set c.nodes i n) (node_of c b)) ≡ at (body_of c) d (Some n.body))) (sym (owned (owner c.nodes i) t)) (fun_ext (λ b. ⊎_elim
+      (λ e. let w = c.wide in
+      ap (λ f. f (node_of c b)) (bodies_set c.nodes i n (omega arith)) ∙ at_here (bodies c.nodes) i (Some n.body) (node_of c b) (ap (node_of c) e ∙ block_of_linked c i l t)
+      ∙ sym (at_here (body_of c) (block_in c i) (Some n.body) b e))
+      (λ ne. apart b (λ e. ne (sym (node_of_block c b (omega arith)).1 ∙ ap (block_in c) e)) ∙ sym (at_there (body_of c) (block_in c i) (Some n.body) b ne))
+      (cases_eq b (block_in c i)))))
+      (λ f. subst (λ o. MatchOption o ((λ b. bodies (set c.nodes i n) (node_of c b)) ≡ body_of c) (λ d. (λ b. bodies (set c.nodes i n) (node_of c b)) ≡ at (body_of c) d (Some n.body))) (sym (unowned (owner c.nodes i) f))
+      (fun_ext (λ b. apart b (λ e. both_ways _ f (ap (is_linked c.nodes) (sym e) ∙ (node_of_block c b (omega arith)).0)))))
+      (cases_Bool (is_linked c.nodes i))
+
+-- the body of a node is written, and its block is left
+module _ (c : Chains) (i : ℕ) (d : Node) (y : Body) (l : i < 256) where
+  abbrev m : Node
+  m = record { block = (get_or c.nodes i d).block; body = y }
+
+  abbrev ms : List Node
+  ms = set c.nodes i (record { block = (get_or c.nodes i d).block; body = y })
+
+  owners : owner ms ≡ owner c.nodes
+  owners = let w = c.wide in
+      owner_set c.nodes i m (omega arith)
+      ∙ at_same (owner c.nodes) i m.block (ap (option_and_then (λ (n : Node). n.block)) (slice_get-get_or c.nodes i d (omega arith)))
+
+  homes_left : home_at ms ≡ home_at c.nodes
+  homes_left = ap (λ f. home_of (λ k. block_number (f k)) (λ k. is_some (f k))) owners
+
+  pub replaced_sound : Sound c.links ms
+  replaced_sound = subst (Holds (next_in c)) (sym homes_left) c.sound
+
+  pub replaced_single : Single c.links ms
+  replaced_single = subst (λ f. NoTwice (next_in c) (λ k. block_number (f k))) (sym owners) c.single
+
+  pub replaced_kept : Kept c.links ms
+  replaced_kept = subst (NoneLost (next_in c)) (sym homes_left) c.kept
+
+  pub replaced_counted : c.count ≡ how_many (is_linked ms) 256
+  replaced_counted = c.counted ∙ ap (λ f. how_many (λ k. is_some (f k)) 256) (sym owners)
+
+  pub replaced_held : c.count ≡ how_many (is_held c.links ms) (2 ^ 48)
+  replaced_held = c.held ∙ ap (λ f. how_many (λ b. ltb (node_for (next_in c) (λ k. block_number (f k)) b) 256) (2 ^ 48)) (sym owners)
+
+  pub replaced_puts : (j : ℕ) → i ≡ j → MatchOption (block_of_node c j) ((λ b. bodies ms (node_for (next_in c) (block_at ms) b)) ≡ body_of c) (λ k. (λ b. bodies ms (node_for (next_in c) (block_at ms) b)) ≡ at (body_of c) k (Some y))
+  replaced_puts j e = subst (λ h. MatchOption (block_of_node c h) ((λ b. bodies ms (node_for (next_in c) (block_at ms) b)) ≡ body_of c) (λ k. (λ b. bodies ms (node_for (next_in c) (block_at ms) b)) ≡ at (body_of c) k (Some y))) e
+      (subst (λ f. MatchOption (block_of_node c i) ((λ b. bodies ms (node_for (next_in c) (λ k. block_number (f k)) b)) ≡ body_of c) (λ k. (λ b. bodies ms (node_for (next_in c) (λ h. block_number (f h)) b)) ≡ at (body_of c) k (Some y))) (sym owners)
+      (rewritten c i m l))
 
 -- three links are written
-three : (ls : List ℕ) (i a j b k d : ℕ) → i < length ls → j < length ls → k < length ls → link_at (set (set (set ls i a) j b) k d) ≡ at (at (at (link_at ls) i a) j b) k d
-three ls i a j b k d x y z =
+three : (ls : List (Option ℕ)) (i j k : ℕ) (a b d : Option ℕ) → i < length ls → j < length ls → k < length ls
+    → link_at (set (set (set ls i a) j b) k d) ≡ at (at (at (link_at ls) i (link_number a)) j (link_number b)) k (link_number d)
+three ls i j k a b d x y z =
     let m = length-set ls i a in
     let n = length-set (set ls i a) j b in
-    get_d_at (set (set ls i a) j b) k d 0 (omega arith)
-    ∙ ap (λ f. at f k d) (get_d_at (set ls i a) j b 0 (omega arith) ∙ ap (λ f. at f j b) (get_d_at ls i a 0 x))
+    link_set (set (set ls i a) j b) k d (omega arith)
+    ∙ ap (λ f. at f k (link_number d)) (link_set (set ls i a) j b (omega arith) ∙ ap (λ f. at f j (link_number b)) (link_set ls i a x))
 
 -- the free nodes have run out: every node is linked
 pub all_linked : (c : Chains) → 256 ≤ next_in c 320 → c.count ≡ 256
-all_linked c g = c.nodes ∙ many_all (flag_at c.linked) 256 (λ i l. ⊎_elim
+all_linked c g = c.counted ∙ many_all (is_linked c.nodes) 256 (λ i l. ⊎_elim
     (λ t. t)
     (λ f. absurd (on_not_off i [] (subst (λ k. on i k ≡ true) (over (next_in c) (home_in c) 64 (next_in c 320) (c.sound 64 (omega arith)) g)
-    (subst (λ k. on i (chain_from (next_in c) k) ≡ true) (cond-false (flag_at c.linked i) (bucket_of (block_in c i)) 64 f) (c.kept i l))) tt))
-    (cases_Bool (flag_at c.linked i)))
+    (subst (λ k. on i (chain_from (next_in c) k) ≡ true) (cond-false (is_linked c.nodes i) (bucket_of (block_in c i)) 64 f) (c.kept i l))) tt))
+    (cases_Bool (is_linked c.nodes i)))
 
--- the node i of the free ones is linked for the block
-module _ (c : Chains) (block h : ℕ) (bucket : h ≡ bucket_of block) (absent : node_of c block ≡ 256) (room : next_in c 320 < 256)
-    (wl : length c.links ≡ 321) (wb : length c.blocks ≡ 256) (wf : length c.linked ≡ 256) where
-  abbrev i : ℕ
-  i = next_in c 320
+-- the first free node is linked for the block; i and j are its number
+module _ (c : Chains) (block : Block) (y : Body) (h i j : ℕ) (bucket : h ≡ bucket_of block.number) (same : i ≡ j) (absent : body_of c block.number ≡ None)
+    (free : get_or c.links 320 None ≡ Some j) (room : j < 256) (wl : length c.links ≡ 321) where
+  abbrev b₀ : ℕ
+  b₀ = block.number
 
-  abbrev ls : List ℕ
-  ls = set (set (set c.links (next_in c 320) (next_in c (256 + h))) 320 (next_in c (next_in c 320))) (256 + h) (next_in c 320)
+  abbrev ls : List (Option ℕ)
+  ls = set (set (set c.links i (get_or c.links (256 + h) None)) 320 (get_or c.links i None)) (256 + h) (Some j)
 
-  abbrev bs : List ℕ
-  bs = set c.blocks (next_in c 320) block
+  abbrev ns : List Node
+  ns = set c.nodes i (record { block = Some block; body = y })
 
-  abbrev fs : List Bool
-  fs = set c.linked (next_in c 320) true
+  first : next_in c 320 ≡ i
+  first = ap link_number free ∙ sym same
+
+  none : node_of c b₀ ≡ 256
+  none = no_node c b₀ absent
+
+  left : next_in c 320 < 256
+  left = let e = first in omega arith
+
+  in_nodes : i < length c.nodes
+  in_nodes = let w = c.wide in omega arith
 
   abbrev nx : ℕ → ℕ
-  nx = push_next (next_in c) (home_in c) (block_in c) c.sound c.single c.kept (home_most c) block absent room
+  nx = push_next (next_in c) (home_in c) (block_in c) c.sound c.single c.kept (home_most c) block.number none left
 
   abbrev bl : ℕ → ℕ
-  bl = push_block (next_in c) (home_in c) (block_in c) c.sound c.single c.kept (home_most c) block absent room
+  bl = push_block (next_in c) (home_in c) (block_in c) c.sound c.single c.kept (home_most c) block.number none left
 
   abbrev hm : ℕ → ℕ
-  hm = push_home (next_in c) (home_in c) (block_in c) c.sound c.single c.kept (home_most c) block absent room
+  hm = push_home (next_in c) (home_in c) (block_in c) c.sound c.single c.kept (home_most c) block.number none left
 
   links : link_at ls ≡ nx
-  links = three c.links i (next_in c (256 + h)) 320 (next_in c i) (256 + h) i (omega arith) (omega arith) (omega arith)
-      ∙ ap (λ k. at (at (at (next_in c) i (next_in c (256 + k))) 320 (next_in c i)) (256 + k) i) bucket
+  links = three c.links i 320 (256 + h) (get_or c.links (256 + h) None) (get_or c.links i None) (Some j) (omega arith) (omega arith) (omega arith)
+      ∙ ap (λ k. at (at (at (next_in c) i (next_in c (256 + k))) 320 (next_in c i)) (256 + k) j) bucket
+      ∙ ap (λ k. at (at (at (next_in c) i (next_in c (256 + bucket_of b₀))) 320 (next_in c i)) (256 + bucket_of b₀) k) (sym same)
+      ∙ ap (λ k. at (at (at (next_in c) k (next_in c (256 + bucket_of b₀))) 320 (next_in c k)) (256 + bucket_of b₀) k) (sym first)
 
-  blocks : block_at bs ≡ bl
-  blocks = get_d_at c.blocks i block 0 (omega arith)
+  blocks : block_at ns ≡ bl
+  blocks = blocks_set c.nodes i (record { block = Some block; body = y }) in_nodes ∙ ap (λ k. at (block_in c) k b₀) (sym first)
 
-  flags : flag_at fs ≡ at (flag_at c.linked) i true
-  flags = get_d_at c.linked i true false (omega arith)
+  flags : is_linked ns ≡ at (is_linked c.nodes) i true
+  flags = linked_set c.nodes i (record { block = Some block; body = y }) in_nodes
 
-  homes : home_of (block_at bs) (flag_at fs) ≡ hm
-  homes = ap₂ home_of blocks flags ∙ fun_ext (λ k. ⊎_elim
-      (λ e. ap₂ (λ x y. cond x (bucket_of y) 64) (at_here (flag_at c.linked) i true k e) (at_here (block_in c) i block k e) ∙ sym (at_here (home_in c) i (bucket_of block) k e))
-      (λ ne. ap₂ (λ x y. cond x (bucket_of y) 64) (at_there (flag_at c.linked) i true k ne) (at_there (block_in c) i block k ne) ∙ sym (at_there (home_in c) i (bucket_of block) k ne))
-      (cases_eq k i))
+  homes : home_at ns ≡ hm
+  homes = homes_set c.nodes i (record { block = Some block; body = y }) in_nodes ∙ ap (λ k. at (home_in c) k (bucket_of b₀)) (sym first)
 
-  pub pushed_sound : Sound ls bs fs
-  pushed_sound = subst (λ n. Holds n (home_of (block_at bs) (flag_at fs))) (sym links) (subst (Holds nx) (sym homes)
-      (push_sound (next_in c) (home_in c) (block_in c) c.sound c.single c.kept (home_most c) block absent room))
+  pub pushed_sound : Sound ls ns
+  pushed_sound = subst (λ n. Holds n (home_at ns)) (sym links) (subst (Holds nx) (sym homes)
+      (push_sound (next_in c) (home_in c) (block_in c) c.sound c.single c.kept (home_most c) b₀ none left))
 
-  pub pushed_single : Single ls bs
-  pushed_single = subst (λ n. NoTwice n (block_at bs)) (sym links) (subst (NoTwice nx) (sym blocks)
-      (push_single (next_in c) (home_in c) (block_in c) c.sound c.single c.kept (home_most c) block absent room))
+  pub pushed_single : Single ls ns
+  pushed_single = subst (λ n. NoTwice n (block_at ns)) (sym links) (subst (NoTwice nx) (sym blocks)
+      (push_single (next_in c) (home_in c) (block_in c) c.sound c.single c.kept (home_most c) b₀ none left))
 
-  pub pushed_kept : Kept ls bs fs
-  pushed_kept = subst (λ n. NoneLost n (home_of (block_at bs) (flag_at fs))) (sym links) (subst (NoneLost nx) (sym homes)
-      (push_kept (next_in c) (home_in c) (block_in c) c.sound c.single c.kept (home_most c) block absent room))
+  pub pushed_kept : Kept ls ns
+  pushed_kept = subst (λ n. NoneLost n (home_at ns)) (sym links) (subst (NoneLost nx) (sym homes)
+      (push_kept (next_in c) (home_in c) (block_in c) c.sound c.single c.kept (home_most c) b₀ none left))
 
-  pub pushed_near : block < 2 ^ 48 → Near bs fs
-  pushed_near l k t = ⊎_elim
-      (λ e. let d = ap (λ f. f k) blocks ∙ at_here (block_in c) i block k e in omega arith)
-      (λ ne. let d = ap (λ f. f k) blocks ∙ at_there (block_in c) i block k ne in
-      let n = c.near k (sym (ap (λ f. f k) flags ∙ at_there (flag_at c.linked) i true k ne) ∙ t) in
-      omega arith)
-      (cases_eq k i)
-
-  node_after : (b : ℕ) → node_for (link_at ls) (block_at bs) b ≡ node_for nx bl b
+  node_after : (b : ℕ) → node_for (link_at ls) (block_at ns) b ≡ node_for nx bl b
   node_after b = ap₂ (λ n m. node_for n m b) links blocks
 
-  node_here : node_for (link_at ls) (block_at bs) block ≡ i
-  node_here = node_after block ∙ push_here (next_in c) (home_in c) (block_in c) c.sound c.single c.kept (home_most c) block absent room
+  node_here : node_for (link_at ls) (block_at ns) b₀ ≡ i
+  node_here = node_after b₀ ∙ push_here (next_in c) (home_in c) (block_in c) c.sound c.single c.kept (home_most c) b₀ none left ∙ first
 
-  node_other : (b : ℕ) → (b ≡ block → ⊥) → node_for (link_at ls) (block_at bs) b ≡ node_of c b
-  node_other b ne = node_after b ∙ push_others (next_in c) (home_in c) (block_in c) c.sound c.single c.kept (home_most c) block absent room b ne
+  node_other : (b : ℕ) → (b ≡ b₀ → ⊥) → node_for (link_at ls) (block_at ns) b ≡ node_of c b
+  node_other b ne = node_after b ∙ push_others (next_in c) (home_in c) (block_in c) c.sound c.single c.kept (home_most c) b₀ none left b ne
 
   -- the node was free
-  was_free : flag_at c.linked i ≡ false
-  was_free = no_flag_of_home c i (step (next_in c) (home_in c) 64 i (c.sound 64 (omega arith)) room).4
+  was_free : is_linked c.nodes i ≡ false
+  was_free = ap (is_linked c.nodes) (sym first) ∙ no_flag_of_home c (next_in c 320) (step (next_in c) (home_in c) 64 (next_in c 320) (c.sound 64 (omega arith)) left).4
 
   pub push_room : c.count < 256
-  push_room = let e = c.nodes in let l = many_less (flag_at c.linked) i 256 room was_free in omega arith
+  push_room = let e = c.counted in let l = many_less (is_linked c.nodes) i 256 (omega arith) was_free in omega arith
 
-  pub pushed_nodes : c.count + 1 ≡ how_many (flag_at fs) 256
-  pushed_nodes =
-      let e = c.nodes in
-      let m = many_at (flag_at c.linked) i true 256 room in
+  pub pushed_counted : c.count + 1 ≡ how_many (is_linked ns) 256
+  pushed_counted =
+      let e = c.counted in
+      let m = many_at (is_linked c.nodes) i true 256 (omega arith) in
       let f = ap one was_free in
       let g = ap (λ t. how_many t 256) flags in
       omega arith
 
-  pub pushed_held : block < 2 ^ 48 → c.count + 1 ≡ how_many (is_held ls bs) (2 ^ 48)
-  pushed_held l =
+  pub pushed_held : c.count + 1 ≡ how_many (is_held ls ns) (2 ^ 48)
+  pushed_held =
       let e = c.held in
-      let m = many_at (is_held c.links c.blocks) block true (2 ^ 48) l in
-      let f = ap one (le-ltb (node_of c block) 256 (let a = absent in omega arith)) in
+      let m = many_at (is_held c.links c.nodes) b₀ true (2 ^ 48) block.within in
+      let f = ap one (le-ltb (node_of c b₀) 256 (let a = none in omega arith)) in
       let g = ap (λ t. how_many t (2 ^ 48)) (fun_ext holds) in
       omega arith
     where
-      holds : (b : ℕ) → is_held ls bs b ≡ at (is_held c.links c.blocks) block true b
+      holds : (b : ℕ) → is_held ls ns b ≡ at (is_held c.links c.nodes) b₀ true b
       holds b = ⊎_elim
-          (λ e. ap (λ x. ltb x 256) (ap (node_for (link_at ls) (block_at bs)) e ∙ node_here) ∙ lt-ltb i 256 room ∙ sym (at_here (is_held c.links c.blocks) block true b e))
-          (λ ne. ap (λ x. ltb x 256) (node_other b ne) ∙ sym (at_there (is_held c.links c.blocks) block true b ne))
-          (cases_eq b block)
+          (λ e. ap (λ x. ltb x 256) (ap (node_for (link_at ls) (block_at ns)) e ∙ node_here) ∙ lt-ltb i 256 (omega arith) ∙ sym (at_here (is_held c.links c.nodes) b₀ true b e))
+          (λ ne. ap (λ x. ltb x 256) (node_other b ne) ∙ sym (at_there (is_held c.links c.nodes) b₀ true b ne))
+          (cases_eq b b₀)
 
-  pub pushed_puts : (y : Body) → (λ b. slice_get (set c.bodies (next_in c 320) y) (node_for (link_at ls) (block_at bs) b)) ≡ at (body_of c) block (Some y)
-  pushed_puts y = fun_ext (λ b. let w = c.wide in ⊎_elim
-      (λ e. ap (slice_get (set c.bodies i y)) (ap (node_for (link_at ls) (block_at bs)) e ∙ node_here)
-      ∙ ap (λ f. f i) (nth_at c.bodies i y (omega arith)) ∙ at_here (slice_get c.bodies) i (Some y) i refl ∙ sym (at_here (body_of c) block (Some y) b e))
-      (λ ne. ap (slice_get (set c.bodies i y)) (node_other b ne)
-      ∙ rewritten_at c i y room b (λ e. both_ways _ was_free (ap (flag_at c.linked) (sym e) ∙ (node_of_block c b (omega arith)).0))
-      ∙ sym (at_there (body_of c) block (Some y) b ne))
-      (cases_eq b block))
+  pub pushed_puts : (λ b. bodies ns (node_for (link_at ls) (block_at ns) b)) ≡ at (body_of c) b₀ (Some y)
+  pushed_puts = fun_ext (λ b. ⊎_elim
+      (λ e. ap (bodies ns) (ap (node_for (link_at ls) (block_at ns)) e ∙ node_here)
+      ∙ ap (λ f. f i) (bodies_set c.nodes i (record { block = Some block; body = y }) in_nodes) ∙ at_here (bodies c.nodes) i (Some y) i refl ∙ sym (at_here (body_of c) b₀ (Some y) b e))
+      (λ ne. ap (bodies ns) (node_other b ne)
+      ∙ apart c i (record { block = Some block; body = y }) (omega arith) b (λ e. both_ways _ was_free (ap (is_linked c.nodes) (sym e) ∙ (node_of_block c b (omega arith)).0))
+      ∙ sym (at_there (body_of c) b₀ (Some y) b ne))
+      (cases_eq b b₀))
 
--- the node of the block, which comes after the place q, is unlinked
-module _ (c : Chains) (block q : ℕ) (at_q : Before c block q) (wl : length c.links ≡ 321) (wf : length c.linked ≡ 256) where
+-- the node of the block, to which the place q leads, is unlinked; i and j are its number
+module _ (c : Chains) (block : Block) (w : Way) (i : ℕ) (y : Body) (leads : Leads c block.number w) (same : i ≡ w.found.node) (small : w.found.node < 256) (wl : length c.links ≡ 321) where
+  abbrev q : ℕ
+  q = w.place
+
+  abbrev k₀ : ℕ
+  k₀ = block.number
+
   abbrev j : ℕ
-  j = next_in c q
+  j = next_in c w.place
+
+  is_i : next_in c q ≡ i
+  is_i = ap link_number leads.link ∙ sym same
 
   follows : next_in c q < 256
-  follows = let e = at_q.1 in let l = at_q.2 in omega arith
+  follows = let e = is_i in omega arith
 
-  place : (q ≡ 256 + bucket_of block) ⊎ (on q (chain_from (next_in c) (bucket_of block)) ≡ true)
-  place = ⊎_elim inl (λ h. inr (subst (λ k. on q (chain_from (next_in c) k) ≡ true) h.1 (c.kept q h.0))) at_q.0
+  place : (q ≡ 256 + bucket_of k₀) ⊎ (on q (chain_from (next_in c) (bucket_of k₀)) ≡ true)
+  place = ⊎_elim inl (λ h. inr (subst (λ k. on q (chain_from (next_in c) k) ≡ true) h.1 (c.kept q h.0))) leads.place
 
-  live : bucket_of block < 64
+  live : bucket_of k₀ < 64
   live = omega arith
 
   q_in : q < 321
-  q_in = ⊎_elim (λ e. let l = live in omega arith) (λ h. let l = h.0 in omega arith) at_q.0
+  q_in = ⊎_elim (λ e. let l = live in omega arith) (λ h. let l = h.0 in omega arith) leads.place
 
-  abbrev ls' : List ℕ
-  ls' = set (set (set c.links q (next_in c (next_in c q))) (next_in c q) (next_in c 320)) 320 (next_in c q)
+  in_nodes' : i < length c.nodes
+  in_nodes' = let e = c.wide in omega arith
 
-  abbrev fs' : List Bool
-  fs' = set c.linked (next_in c q) false
+  abbrev ls' : List (Option ℕ)
+  ls' = set (set (set c.links w.place (get_or c.links i None)) i (get_or c.links 320 None)) 320 (Some w.found.node)
+
+  abbrev ns' : List Node
+  ns' = set c.nodes i (record { block = None; body = y })
 
   abbrev nx' : ℕ → ℕ
-  nx' = cut_next (next_in c) (home_in c) (block_in c) c.sound c.single c.kept (home_most c) q (bucket_of block) live place follows
+  nx' = cut_next (next_in c) (home_in c) (block_in c) c.sound c.single c.kept (home_most c) w.place (bucket_of block.number) live place follows
+
+  abbrev bl' : ℕ → ℕ
+  bl' = cut_block (next_in c) (home_in c) (block_in c) c.sound c.single c.kept (home_most c) w.place (bucket_of block.number) live place follows
 
   abbrev hm' : ℕ → ℕ
-  hm' = cut_home (next_in c) (home_in c) (block_in c) c.sound c.single c.kept (home_most c) q (bucket_of block) live place follows
+  hm' = cut_home (next_in c) (home_in c) (block_in c) c.sound c.single c.kept (home_most c) w.place (bucket_of block.number) live place follows
 
   links' : link_at ls' ≡ nx'
-  links' = let f = follows in let g = q_in in three c.links q (next_in c j) j (next_in c 320) 320 j (omega arith) (omega arith) (omega arith)
+  links' = let l = q_in in
+      three c.links q i 320 (get_or c.links i None) (get_or c.links 320 None) (Some w.found.node) (omega arith) (omega arith) (omega arith)
+      ∙ ap (λ k. at (at (at (next_in c) q (next_in c i)) i (next_in c 320)) 320 k) (sym same)
+      ∙ ap (λ k. at (at (at (next_in c) q (next_in c k)) k (next_in c 320)) 320 k) (sym is_i)
 
-  flags' : flag_at fs' ≡ at (flag_at c.linked) j false
-  flags' = let f = follows in get_d_at c.linked j false false (omega arith)
+  blocks' : block_at ns' ≡ bl'
+  blocks' = blocks_set c.nodes i (record { block = None; body = y }) in_nodes' ∙ ap (λ k. at (block_in c) k 0) (sym is_i)
 
-  homes' : home_of (block_in c) (flag_at fs') ≡ hm'
-  homes' = ap (home_of (block_in c)) flags' ∙ fun_ext (λ k. ⊎_elim
-      (λ e. ap (λ x. cond x (bucket_of (block_in c k)) 64) (at_here (flag_at c.linked) j false k e) ∙ sym (at_here (home_in c) j 64 k e))
-      (λ ne. ap (λ x. cond x (bucket_of (block_in c k)) 64) (at_there (flag_at c.linked) j false k ne) ∙ sym (at_there (home_in c) j 64 k ne))
-      (cases_eq k j))
+  flags' : is_linked ns' ≡ at (is_linked c.nodes) i false
+  flags' = linked_set c.nodes i (record { block = None; body = y }) in_nodes'
 
-  pub unlinked_sound : Sound ls' c.blocks fs'
-  unlinked_sound = subst (λ n. Holds n (home_of (block_in c) (flag_at fs'))) (sym links') (subst (Holds nx') (sym homes')
-      (cut_sound (next_in c) (home_in c) (block_in c) c.sound c.single c.kept (home_most c) q (bucket_of block) live place follows))
+  homes' : home_at ns' ≡ hm'
+  homes' = homes_set c.nodes i (record { block = None; body = y }) in_nodes' ∙ ap (λ k. at (home_in c) k 64) (sym is_i)
 
-  pub unlinked_single : Single ls' c.blocks
-  unlinked_single = subst (λ n. NoTwice n (block_in c)) (sym links')
-      (cut_single (next_in c) (home_in c) (block_in c) c.sound c.single c.kept (home_most c) q (bucket_of block) live place follows)
+  pub unlinked_sound : Sound ls' ns'
+  unlinked_sound = subst (λ n. Holds n (home_at ns')) (sym links') (subst (Holds nx') (sym homes')
+      (cut_sound (next_in c) (home_in c) (block_in c) c.sound c.single c.kept (home_most c) q (bucket_of k₀) live place follows))
 
-  pub unlinked_kept : Kept ls' c.blocks fs'
-  unlinked_kept = subst (λ n. NoneLost n (home_of (block_in c) (flag_at fs'))) (sym links') (subst (NoneLost nx') (sym homes')
-      (cut_kept (next_in c) (home_in c) (block_in c) c.sound c.single c.kept (home_most c) q (bucket_of block) live place follows))
+  pub unlinked_single : Single ls' ns'
+  unlinked_single = subst (λ n. NoTwice n (block_at ns')) (sym links') (subst (NoTwice nx') (sym blocks')
+      (cut_single (next_in c) (home_in c) (block_in c) c.sound c.single c.kept (home_most c) q (bucket_of k₀) live place follows))
 
-  pub unlinked_near : Near c.blocks fs'
-  unlinked_near k t = ⊎_elim
-      (λ e. absurd (both_ways _ (ap (λ f. f k) flags' ∙ at_here (flag_at c.linked) j false k e) t))
-      (λ ne. c.near k (sym (ap (λ f. f k) flags' ∙ at_there (flag_at c.linked) j false k ne) ∙ t))
-      (cases_eq k j)
+  pub unlinked_kept : Kept ls' ns'
+  unlinked_kept = subst (λ n. NoneLost n (home_at ns')) (sym links') (subst (NoneLost nx') (sym homes')
+      (cut_kept (next_in c) (home_in c) (block_in c) c.sound c.single c.kept (home_most c) q (bucket_of k₀) live place follows))
 
-  -- the node has the block, and is linked
-  own : (flag_at c.linked j ≡ true) × (block_in c j ≡ block)
-  own = let e = sym at_q.1 in let (t, d) = node_of_block c block at_q.2 in (ap (flag_at c.linked) (sym e) ∙ t, ap (block_in c) (sym e) ∙ d)
+  -- the node is that of the block, and linked
+  at_q : node_of c k₀ ≡ i
+  at_q = leads.found.node ∙ sym same
 
-  node_gone : node_for (link_at ls') (block_in c) block ≡ 256
-  node_gone = ap (λ n. node_for n (block_in c) block) links' ∙ ap (node_for nx' (block_in c)) (sym own.1)
-      ∙ cut_gone (next_in c) (home_in c) (block_in c) c.sound c.single c.kept (home_most c) q (bucket_of block) live place follows (ap bucket_of own.1)
+  own : (is_linked c.nodes i ≡ true) × (block_in c j ≡ k₀)
+  own = let e = at_q in let (t, d) = node_of_block c k₀ (omega arith) in (ap (is_linked c.nodes) (sym e) ∙ t, ap (block_in c) (is_i ∙ sym e) ∙ d)
 
-  node_kept : (b : ℕ) → (b ≡ block → ⊥) → node_for (link_at ls') (block_in c) b ≡ node_of c b
-  node_kept b ne = ap (λ n. node_for n (block_in c) b) links'
-      ∙ cut_others (next_in c) (home_in c) (block_in c) c.sound c.single c.kept (home_most c) q (bucket_of block) live place follows b (λ e. ne (e ∙ own.1))
+  node_gone : node_for (link_at ls') (block_at ns') k₀ ≡ 256
+  node_gone = ap₂ (λ n m. node_for n m k₀) links' blocks' ∙ ap (node_for nx' bl') (sym own.1)
+      ∙ cut_gone (next_in c) (home_in c) (block_in c) c.sound c.single c.kept (home_most c) q (bucket_of k₀) live place follows (ap bucket_of own.1)
 
-  pub unlinked_nodes : c.count ≡ how_many (flag_at fs') 256 + 1
-  unlinked_nodes =
-      let e = c.nodes in
-      let m = many_at (flag_at c.linked) j false 256 follows in
+  node_kept : (b : ℕ) → (b ≡ k₀ → ⊥) → node_for (link_at ls') (block_at ns') b ≡ node_of c b
+  node_kept b ne = ap₂ (λ n m. node_for n m b) links' blocks'
+      ∙ cut_others (next_in c) (home_in c) (block_in c) c.sound c.single c.kept (home_most c) q (bucket_of k₀) live place follows b (λ e. ne (e ∙ own.1))
+
+  pub unlinked_counted : c.count ≡ how_many (is_linked ns') 256 + 1
+  unlinked_counted =
+      let e = c.counted in
+      let m = many_at (is_linked c.nodes) i false 256 (omega arith) in
       let f = ap one own.0 in
       let g = ap (λ t. how_many t 256) flags' in
       omega arith
 
-  pub unlinked_held : block < 2 ^ 48 → c.count ≡ how_many (is_held ls' c.blocks) (2 ^ 48) + 1
-  unlinked_held l =
+  pub unlinked_held : c.count ≡ how_many (is_held ls' ns') (2 ^ 48) + 1
+  unlinked_held =
       let e = c.held in
-      let m = many_at (is_held c.links c.blocks) block false (2 ^ 48) l in
-      let f = ap one (lt-ltb (node_of c block) 256 at_q.2) in
+      let m = many_at (is_held c.links c.nodes) k₀ false (2 ^ 48) block.within in
+      let f = ap one (lt-ltb (node_of c k₀) 256 (let a = at_q in omega arith)) in
       let g = ap (λ t. how_many t (2 ^ 48)) (fun_ext holds) in
       omega arith
     where
-      holds : (b : ℕ) → is_held ls' c.blocks b ≡ at (is_held c.links c.blocks) block false b
+      holds : (b : ℕ) → is_held ls' ns' b ≡ at (is_held c.links c.nodes) k₀ false b
       holds b = ⊎_elim
-          (λ e. ap (λ x. ltb x 256) (ap (node_for (link_at ls') (block_in c)) e ∙ node_gone) ∙ sym (at_here (is_held c.links c.blocks) block false b e))
-          (λ ne. ap (λ x. ltb x 256) (node_kept b ne) ∙ sym (at_there (is_held c.links c.blocks) block false b ne))
-          (cases_eq b block)
+          (λ e. ap (λ x. ltb x 256) (ap (node_for (link_at ls') (block_at ns')) e ∙ node_gone) ∙ sym (at_here (is_held c.links c.nodes) k₀ false b e))
+          (λ ne. ap (λ x. ltb x 256) (node_kept b ne) ∙ sym (at_there (is_held c.links c.nodes) k₀ false b ne))
+          (cases_eq b k₀)
 
-  pub unlinked_puts : (λ b. slice_get c.bodies (node_for (link_at ls') (block_in c) b)) ≡ at (body_of c) block None
+  pub unlinked_puts : (λ b. bodies ns' (node_for (link_at ls') (block_at ns') b)) ≡ at (body_of c) k₀ None
   unlinked_puts = fun_ext (λ b. ⊎_elim
-      (λ e. ap (slice_get c.bodies) (ap (node_for (link_at ls') (block_in c)) e ∙ node_gone) ∙ slice_get_past c.bodies 256 (let w = c.wide in omega arith) ∙ sym (at_here (body_of c) block None b e))
-      (λ ne. ap (slice_get c.bodies) (node_kept b ne) ∙ sym (at_there (body_of c) block None b ne))
-      (cases_eq b block))
+      (λ e. ap (bodies ns') (ap (node_for (link_at ls') (block_at ns')) e ∙ node_gone)
+      ∙ ap (option_map (λ (n : Node). n.body)) (slice_get_past ns' 256 (let l = length-set c.nodes i (record { block = None; body = y }) in let e = c.wide in omega arith)) ∙ sym (at_here (body_of c) k₀ None b e))
+      (λ ne. ap (bodies ns') (node_kept b ne)
+      ∙ apart c i (record { block = None; body = y }) (omega arith) b (λ e. ne (sym (node_of_block c b (omega arith)).1 ∙ ap (block_in c) (e ∙ sym is_i) ∙ own.1))
+      ∙ sym (at_there (body_of c) k₀ None b ne))
+      (cases_eq b k₀))
+
+  -- what the node held
+  pub unlinked_body : (d : Node) → Some (get_or c.nodes i d).body ≡ body_of c k₀
+  unlinked_body d = let e = c.wide in sym (ap (bodies c.nodes) at_q ∙ ap (option_map (λ (n : Node). n.body)) (slice_get-get_or c.nodes i d (omega arith)))

@@ -1,10 +1,16 @@
 -- New chains: every node is free.
-use Rattle.std.proofs.Common.{◌≡◌, ℕ, zero, suc, ◌+◌, ◌^◌, ◌<◌, ◌≤◌, Bool, true, false, List, [], ◌∷◌, get_or, replicate, sym, refl, ap, ◌∙◌, subst, ⊎_elim, arith}
-use Rattle.std.proofs.lemmas.Bool.{cases_lt, cases_eq, both_ways, le-ltb, cond-false}
+use Rattle.std.specs.List.{slice_get, range_with_len}
+use Rattle.std.specs.Option.{option_map}
+use Rattle.std.proofs.lemmas.List.FromFn.{get_or-map-range_with_len}
+use Rattle.std.proofs.lemmas.Option.{slice_get_past}
+use lib.ListN.{length-replicate}
+use Rattle.std.proofs.Common.{map, None, Option, is_some, ◌≡◌, ℕ, zero, suc, ◌+◌, ◌^◌, ◌<◌, ◌≤◌, true, false, List, [], ◌∷◌, replicate, sym, refl, ap, ◌∙◌, subst, ⊎_elim, arith}
+use Rattle.std.proofs.lemmas.Bool.{cases_lt, cases_eq, le-ltb, lt-ltb, ne_eqb, cond-true, cond-false}
 use Rattle.words.specs.Layout.{bucket_of}
 use Rattle.chains.specs.Counting.{how_many}
 use Rattle.chains.specs.Links.{chained, node_with, no_twice, on}
-use Rattle.chains.specs.Nodes.{link_at, block_at, flag_at, home_of, chain_from, node_for, is_held, Sound, Single, Kept, Near}
+use Rattle.chains.specs.declared.node.Node.{Node}
+use Rattle.chains.specs.Nodes.{link_number, first_link, link_at, owner, block_at, is_linked, home_at, chain_from, node_for, is_held, Sound, Single, Kept}
 use Rattle.chains.proofs.Counts.{many_none}
 use Rattle.chains.proofs.Cut.{on_here, on_there}
 use Rattle.chains.proofs.Linking.{settled}
@@ -14,20 +20,40 @@ up : ℕ → ℕ → List ℕ
 up i zero = []
 up i (suc n) = i ∷ up (i + 1) n
 
-no_flag : (n i : ℕ) → get_or (replicate n false) i false ≡ false
-no_flag zero i = refl
-no_flag (suc n) zero = refl
-no_flag (suc n) (suc i) = no_flag n i
+-- nodes that have no block
+module _ (n : Node) (none : n.block ≡ None) where
+  spare_owner : (m i : ℕ) → owner (replicate m n) i ≡ None
+  spare_owner zero i = refl
+  spare_owner (suc m) zero = none
+  spare_owner (suc m) (suc i) = spare_owner m i
 
-module _ (ls : List ℕ) (bs : List ℕ) (free : link_at ls 320 ≡ 0) (rises : (k : ℕ) → k < 256 → link_at ls k ≡ k + 1) (heads : (b : ℕ) → b < 64 → link_at ls (256 + b) ≡ 256) where
-  abbrev fs : List Bool
-  fs = replicate 256 false
+module _ (ls : List (Option ℕ)) (new : ls ≡ map first_link (range_with_len 0 321)) (n : Node) (blank : n.block ≡ None) where
+  link : (k : ℕ) → k < 321 → link_at ls k ≡ link_number (first_link k)
+  link k l = ap (λ xs. link_at xs k) new ∙ ap link_number (get_or-map-range_with_len first_link 0 321 k k None l (omega arith))
+
+  free : link_at ls 320 ≡ 0
+  free = link 320 (omega arith)
+
+  rises : (k : ℕ) → k < 256 → link_at ls k ≡ k + 1
+  rises k l = link k (omega arith) ∙ ⊎_elim
+      (λ lt. ap link_number (cond-true _ _ _ (lt-ltb k 255 lt)))
+      (λ ge. ap link_number (cond-false _ _ _ (le-ltb k 255 ge) ∙ cond-false _ _ _ (ne_eqb k 320 (λ e. omega arith))) ∙ (let e : 256 ≡ k + 1 = omega arith in e))
+      (cases_lt k 255)
+
+  heads : (b : ℕ) → b < 64 → link_at ls (256 + b) ≡ 256
+  heads b l = link (256 + b) (omega arith) ∙ ap link_number (cond-false _ _ _ (le-ltb (256 + b) 255 (omega arith)) ∙ cond-false _ _ _ (ne_eqb (256 + b) 320 (λ e. omega arith)))
+
+  abbrev ns : List Node
+  ns = replicate 256 n
 
   abbrev hm : ℕ → ℕ
-  hm = home_of (block_at bs) (flag_at fs)
+  hm = home_at (replicate 256 n)
+
+  unlinked : (i : ℕ) → is_linked (replicate 256 n) i ≡ false
+  unlinked i = ap is_some (spare_owner n blank 256 i)
 
   home : (i : ℕ) → hm i ≡ 64
-  home i = cond-false _ _ _ (no_flag 256 i)
+  home i = cond-false _ _ _ (unlinked i)
 
   all : (n i : ℕ) → i + n ≡ 256 → Chained (link_at ls) hm 64 i (up i n)
   unfolding up
@@ -42,16 +68,16 @@ module _ (ls : List ℕ) (bs : List ℕ) (free : link_at ls 320 ≡ 0) (rises : 
   none : (b : ℕ) → b < 64 → Chained (link_at ls) hm b (link_at ls (256 + b)) []
   none b lt = let e = heads b lt in omega arith
 
-  pub fresh_sound : Sound ls bs fs
+  pub fresh_sound : Sound ls (replicate 256 n)
   fresh_sound b lt = ⊎_elim
       (λ l. settled (link_at ls) hm b (link_at ls (256 + b)) [] (none b l))
       (λ g. subst (λ (k : ℕ). chained (link_at ls) hm k (link_at ls (256 + k)) (chain_from (link_at ls) k) ≡ true) (let e : 64 ≡ b = omega arith in e)
       (settled (link_at ls) hm 64 (link_at ls (256 + 64)) (up 0 256) from_head))
       (cases_lt b 64)
 
-  pub fresh_single : Single ls bs
+  pub fresh_single : Single ls (replicate 256 n)
   unfolding no_twice
-  fresh_single b lt = subst (λ (l : List ℕ). no_twice (block_at bs) l ≡ true) (sym (whole (link_at ls) hm b (link_at ls (256 + b)) [] (none b lt))) refl
+  fresh_single b lt = subst (λ (l : List ℕ). no_twice (block_at ns) l ≡ true) (sym (whole (link_at ls) hm b (link_at ls (256 + b)) [] (none b lt))) refl
 
   on_up : (k n i : ℕ) → i ≤ k → k < i + n → on k (up i n) ≡ true
   unfolding up
@@ -61,18 +87,18 @@ module _ (ls : List ℕ) (bs : List ℕ) (free : link_at ls 320 ≡ 0) (rises : 
       (λ ne. on_there k i (up (i + 1) n) (on_up k n (i + 1) (⊎_elim (λ s. (let z : i + 1 ≤ k = omega arith in z)) (λ g. absurd (ne (omega arith))) (cases_lt i k)) (omega arith)))
       (cases_eq i k)
 
-  pub fresh_kept : Kept ls bs fs
+  pub fresh_kept : Kept ls (replicate 256 n)
   fresh_kept k lt = subst (λ (h : ℕ). on k (chain_from (link_at ls) h) ≡ true) (sym (home k))
       (subst (λ (l : List ℕ). on k l ≡ true) (sym (whole (link_at ls) hm 64 (link_at ls (256 + 64)) (up 0 256) from_head)) (on_up k 256 0 (omega arith) (omega arith)))
 
-  pub fresh_node : (b : ℕ) → node_for (link_at ls) (block_at bs) b ≡ 256
-  fresh_node b = ap (node_with (block_at bs) b) (whole (link_at ls) hm (bucket_of b) (link_at ls (256 + bucket_of b)) [] (none (bucket_of b) (omega arith))) ∙ node_none (block_at bs) b
+  pub fresh_node : (b : ℕ) → node_for (link_at ls) (block_at ns) b ≡ 256
+  fresh_node b = ap (node_with (block_at ns) b) (whole (link_at ls) hm (bucket_of b) (link_at ls (256 + bucket_of b)) [] (none (bucket_of b) (omega arith))) ∙ node_none (block_at ns) b
 
-  pub fresh_near : Near bs fs
-  fresh_near i t = absurd (both_ways _ (no_flag 256 i) t)
+  pub fresh_counted : 0 ≡ how_many (is_linked ns) 256
+  fresh_counted = sym (many_none (is_linked ns) 256 (λ k l. unlinked k))
 
-  pub fresh_nodes : 0 ≡ how_many (flag_at fs) 256
-  fresh_nodes = sym (many_none (flag_at fs) 256 (λ k l. no_flag 256 k))
+  pub fresh_held : 0 ≡ how_many (is_held ls ns) (2 ^ 48)
+  fresh_held = sym (many_none (is_held ls ns) (2 ^ 48) (λ b l. le-ltb _ 256 (let e = fresh_node b in omega arith)))
 
-  pub fresh_held : 0 ≡ how_many (is_held ls bs) (2 ^ 48)
-  fresh_held = sym (many_none (is_held ls bs) (2 ^ 48) (λ b l. le-ltb _ 256 (let e = fresh_node b in omega arith)))
+  pub fresh_body : (b : ℕ) → option_map (λ (m : Node). m.body) (slice_get ns (node_for (link_at ls) (block_at ns) b)) ≡ None
+  fresh_body b = ap (option_map (λ (m : Node). m.body)) (slice_get_past ns (node_for (link_at ls) (block_at ns) b) (let l = length-replicate 256 n in let e = fresh_node b in omega arith))

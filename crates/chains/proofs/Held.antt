@@ -1,17 +1,20 @@
 -- What is held of a block, by its node.
-use Rattle.std.proofs.Common.{◌≡◌, ℕ, zero, suc, ◌+◌, ◌<◌, ◌≤◌, true, false, eqb, ltb, ◌≢◌, List, [], ◌∷◌, length, get_or, set, is_some, Some, None, sym, refl, ap, ◌∙◌, subst, ⊎_elim, arith}
+use Rattle.std.proofs.Common.{option_and_then, Option, ◌≡◌, ℕ, zero, suc, ◌+◌, ◌<◌, ◌≤◌, true, false, eqb, ltb, ◌≢◌, List, [], ◌∷◌, length, get_or, set, is_some, Some, None, sym, refl, ap, ◌∙◌, subst, ⊎_elim, arith}
 use mathlib.Core.Path.{fun_ext}
 use Rattle.std.proofs.lemmas.List.{get_or-set_same, get_or-set_other}
-use Rattle.std.proofs.lemmas.Option.{slice_get_past}
+use Rattle.std.proofs.lemmas.Option.{slice_get_past, slice_get-get_or}
 use Rattle.std.proofs.lemmas.Bool.{cases_eq, cases_lt, cases_Bool, both_ways, eq-eqb, eqb-true, lt-ltb, le-ltb, and_parts, or_cases, or_left, or_right, cond-true, cond-false}
 use Rattle.std.specs.List.{slice_get}
 use Rattle.words.specs.Layout.{bucket_of}
 use Rattle.words.specs.Points.{at}
 use Rattle.chains.specs.declared.chains.Chains.{Chains}
-use Rattle.chains.specs.declared.node.Body.{Body}
 use Rattle.chains.specs.Chains.{node_of, body_of, block_of_node}
 use Rattle.chains.specs.Links.{walk, node_with, no_twice, on}
-use Rattle.chains.specs.Nodes.{link_at, block_at, flag_at, home_of, chain_from}
+use Rattle.std.specs.Option.{option_map}
+use Rattle.words.specs.declared.address.Block.{Block}
+use Rattle.chains.specs.declared.node.Node.{Node}
+use Rattle.chains.specs.Blocks.{block_number, is_number}
+use Rattle.chains.specs.Nodes.{link_number, link_at, owner, is_linked, block_at, home_at, chain_from}
 use Rattle.chains.proofs.Linking.{at_here, at_there, at_home}
 use Rattle.chains.proofs.Steps.{Going, step, falls, passed, here, nowhere}
 use Rattle.chains.proofs.Walks.{Chained, opened, node_here, node_past}
@@ -21,32 +24,32 @@ abbrev pub next_in : Chains → ℕ → ℕ
 next_in c = link_at c.links
 
 abbrev pub home_in : Chains → ℕ → ℕ
-home_in c = home_of (block_at c.blocks) (flag_at c.linked)
+home_in c = home_at c.nodes
 
 abbrev pub block_in : Chains → ℕ → ℕ
-block_in c = block_at c.blocks
+block_in c = block_at c.nodes
 
 pub home_most : (c : Chains) (i : ℕ) → home_in c i ≤ 64
 home_most c i = ⊎_elim
-    (λ t. let e = cond-true (flag_at c.linked i) (bucket_of (block_in c i)) 64 t in omega arith)
-    (λ f. let e = cond-false (flag_at c.linked i) (bucket_of (block_in c i)) 64 f in omega arith)
-    (cases_Bool (flag_at c.linked i))
+    (λ t. let e = cond-true (is_linked c.nodes i) (bucket_of (block_in c i)) 64 t in omega arith)
+    (λ f. let e = cond-false (is_linked c.nodes i) (bucket_of (block_in c i)) 64 f in omega arith)
+    (cases_Bool (is_linked c.nodes i))
 
 -- a node on the chain of a bucket is linked
-pub flag_of_home : (c : Chains) (i : ℕ) → home_in c i < 64 → (flag_at c.linked i ≡ true) × (home_in c i ≡ bucket_of (block_in c i))
+pub flag_of_home : (c : Chains) (i : ℕ) → home_in c i < 64 → (is_linked c.nodes i ≡ true) × (home_in c i ≡ bucket_of (block_in c i))
 flag_of_home c i l = ⊎_elim
-    (λ t. (t, cond-true (flag_at c.linked i) (bucket_of (block_in c i)) 64 t))
-    (λ f. let e = cond-false (flag_at c.linked i) (bucket_of (block_in c i)) 64 f in absurd (omega arith))
-    (cases_Bool (flag_at c.linked i))
+    (λ t. (t, cond-true (is_linked c.nodes i) (bucket_of (block_in c i)) 64 t))
+    (λ f. let e = cond-false (is_linked c.nodes i) (bucket_of (block_in c i)) 64 f in absurd (omega arith))
+    (cases_Bool (is_linked c.nodes i))
 
-pub home_of_flag : (c : Chains) (i : ℕ) → flag_at c.linked i ≡ true → home_in c i ≡ bucket_of (block_in c i)
-home_of_flag c i t = cond-true (flag_at c.linked i) (bucket_of (block_in c i)) 64 t
+pub home_of_flag : (c : Chains) (i : ℕ) → is_linked c.nodes i ≡ true → home_in c i ≡ bucket_of (block_in c i)
+home_of_flag c i t = cond-true (is_linked c.nodes i) (bucket_of (block_in c i)) 64 t
 
-pub no_flag_of_home : (c : Chains) (i : ℕ) → home_in c i ≡ 64 → flag_at c.linked i ≡ false
+pub no_flag_of_home : (c : Chains) (i : ℕ) → home_in c i ≡ 64 → is_linked c.nodes i ≡ false
 no_flag_of_home c i e = ⊎_elim
     (λ t. let d = home_of_flag c i t in absurd (omega arith))
     (λ f. f)
-    (cases_Bool (flag_at c.linked i))
+    (cases_Bool (is_linked c.nodes i))
 
 -- the node that is found is on the chain, and has the block
 node_on : (bl : ℕ → ℕ) (b : ℕ) (l : List ℕ) → node_with bl b l < 256 → (on (node_with bl b l) l ≡ true) × (bl (node_with bl b l) ≡ b)
@@ -90,6 +93,11 @@ node_own nx hm bl k i (x ∷ l) j (e, lt, hb, r) s o = ⊎_elim
     (cases_eq (bl x) (bl j)))
     (or_cases _ _ o)
 
+some_here : (xs : List Node) (i : ℕ) → i < length xs → is_some (option_map (λ (n : Node). n.body) (slice_get xs i)) ≡ true
+some_here [] i l = absurd (omega arith)
+some_here (x ∷ xs) zero l = refl
+some_here (x ∷ xs) (suc i) l = some_here xs i (omega arith)
+
 module _ (c : Chains) where
   chain : (b : ℕ) → b < 65 → Chained (next_in c) (home_in c) b (next_in c (256 + b)) (chain_from (next_in c) b)
   chain b lt = opened (next_in c) (home_in c) b (next_in c (256 + b)) (chain_from (next_in c) b) (c.sound b lt)
@@ -98,14 +106,14 @@ module _ (c : Chains) where
   node_of_most b = node_most (next_in c) (home_in c) (block_in c) (bucket_of b) b _ (chain_from (next_in c) (bucket_of b)) (chain (bucket_of b) (omega arith))
 
   -- the node of a block is linked, and has that block
-  pub node_of_block : (b : ℕ) → node_of c b < 256 → (flag_at c.linked (node_of c b) ≡ true) × (block_in c (node_of c b) ≡ b)
+  pub node_of_block : (b : ℕ) → node_of c b < 256 → (is_linked c.nodes (node_of c b) ≡ true) × (block_in c (node_of c b) ≡ b)
   node_of_block b l =
       let (o, e) = node_on (block_in c) b (chain_from (next_in c) (bucket_of b)) l in
       let h = at_home (next_in c) (home_in c) (bucket_of b) (node_of c b) _ (chain_from (next_in c) (bucket_of b)) (chain (bucket_of b) (omega arith)) o in
       ((flag_of_home c (node_of c b) (omega arith)).0, e)
 
   -- a node that is linked is the node of its block
-  pub block_of_linked : (i : ℕ) → i < 256 → flag_at c.linked i ≡ true → node_of c (block_in c i) ≡ i
+  pub block_of_linked : (i : ℕ) → i < 256 → is_linked c.nodes i ≡ true → node_of c (block_in c i) ≡ i
   block_of_linked i l t =
       node_own (next_in c) (home_in c) (block_in c) (bucket_of (block_in c i)) _ (chain_from (next_in c) (bucket_of (block_in c i))) i
       (chain (bucket_of (block_in c i)) (omega arith)) (c.single (bucket_of (block_in c i)) (omega arith))
@@ -113,35 +121,39 @@ module _ (c : Chains) where
 
   -- a body for each block with a node, and no other
   pub no_body : (b : ℕ) → node_of c b ≡ 256 → body_of c b ≡ None
-  no_body b e = slice_get_past c.bodies (node_of c b) (let w = c.wide in omega arith)
+  no_body b e = ap (option_map (λ n. n.body)) (slice_get_past c.nodes (node_of c b) (let w = c.wide in omega arith))
 
   pub no_node : (b : ℕ) → body_of c b ≡ None → node_of c b ≡ 256
   no_node b e = ⊎_elim
-      (λ l. absurd (let d = nth_some c.bodies (node_of c b) (let w = c.wide in omega arith) in let z : ◌≡◌ {A = ℕ} 0 1 = cc (e, d.1) in omega arith))
+      (λ l. absurd (both_ways _ (ap is_some e) (some_here c.nodes (node_of c b) (let w = c.wide in omega arith))))
       (λ g. let m = node_of_most b in omega arith)
       (cases_lt (node_of c b) 256)
-    where
-      nth_some : (xs : List Body) (i : ℕ) → i < length xs → (x : Body) × (slice_get xs i ≡ Some x)
-      nth_some [] i l = absurd (omega arith)
-      nth_some (x ∷ xs) zero l = (x, refl)
-      nth_some (x ∷ xs) (suc i) l = nth_some xs i (omega arith)
 
   pub held_some : (b : ℕ) → is_some (body_of c b) ≡ ltb (node_of c b) 256
   held_some b = ⊎_elim
-      (λ l. some_here c.bodies (node_of c b) (let w = c.wide in omega arith) ∙ sym (lt-ltb _ 256 l))
-      (λ g. ap is_some (slice_get_past c.bodies (node_of c b) (let w = c.wide in omega arith)) ∙ sym (le-ltb _ 256 g))
+      (λ l. some_here c.nodes (node_of c b) (let w = c.wide in omega arith) ∙ sym (lt-ltb _ 256 l))
+      (λ g. ap (λ o. is_some (option_map (λ (n : Node). n.body) o)) (slice_get_past c.nodes (node_of c b) (let w = c.wide in omega arith)) ∙ sym (le-ltb _ 256 g))
       (cases_lt (node_of c b) 256)
-    where
-      some_here : (xs : List Body) (i : ℕ) → i < length xs → is_some (slice_get xs i) ≡ true
-      some_here [] i l = absurd (omega arith)
-      some_here (x ∷ xs) zero l = refl
-      some_here (x ∷ xs) (suc i) l = some_here xs i (omega arith)
 
--- an element that is written, as a function
-pub get_d_at : {X : Type 0} (xs : List X) (i : ℕ) (v d : X) → i < length xs → (λ k. get_or (set xs i v) k d) ≡ at (λ k. get_or xs k d) i v
-get_d_at xs i v d l = fun_ext (λ k. ⊎_elim
-    (λ e. ap (λ j. get_or (set xs i v) j d) e ∙ get_or-set_same xs i v d l ∙ sym (at_here (λ k. get_or xs k d) i v k e))
-    (λ ne. let n : k ≢ i = ne in get_or-set_other xs i k v d n ∙ sym (at_there (λ k. get_or xs k d) i v k ne))
+-- a function of a changed function
+pub at_map : {X Y : Type 0} (g : X → Y) (f : ℕ → X) (p : ℕ) (x : X) → (λ k. g (at f p x k)) ≡ at (λ k. g (f k)) p (g x)
+at_map g f p x = fun_ext (λ k. ⊎_elim
+    (λ e. ap g (at_here f p x k e) ∙ sym (at_here (λ k. g (f k)) p (g x) k e))
+    (λ ne. ap g (at_there f p x k ne) ∙ sym (at_there (λ k. g (f k)) p (g x) k ne))
+    (cases_eq k p))
+
+-- a function that had the value already
+pub at_same : {X : Type 0} (f : ℕ → X) (p : ℕ) (x : X) → f p ≡ x → at f p x ≡ f
+at_same f p x same = fun_ext (λ k. ⊎_elim
+    (λ e. at_here f p x k e ∙ sym same ∙ ap f (sym e))
+    (λ ne. at_there f p x k ne)
+    (cases_eq k p))
+
+-- a link that is written
+pub link_set : (ls : List (Option ℕ)) (i : ℕ) (v : Option ℕ) → i < length ls → link_at (set ls i v) ≡ at (link_at ls) i (link_number v)
+link_set ls i v l = fun_ext (λ k. ⊎_elim
+    (λ e. ap (link_at (set ls i v)) e ∙ ap link_number (get_or-set_same ls i v None l) ∙ sym (at_here (link_at ls) i (link_number v) k e))
+    (λ ne. let n : k ≢ i = ne in ap link_number (get_or-set_other ls i k v None n) ∙ sym (at_there (link_at ls) i (link_number v) k ne))
     (cases_eq k i))
 
 pub nth_at : {X : Type 0} (xs : List X) (i : ℕ) (v : X) → i < length xs → slice_get (set xs i v) ≡ at (slice_get xs) i (Some v)
@@ -162,6 +174,10 @@ nth_at {X = X} xs i v l = fun_ext (λ k. ⊎_elim
     other (x ∷ xs) (suc i) zero ne = refl
     other (x ∷ xs) (suc i) (suc k) ne = other xs i k (λ e. ne (ap suc e))
 
+-- a node that is written
+pub owner_set : (ns : List Node) (i : ℕ) (n : Node) → i < length ns → owner (set ns i n) ≡ at (owner ns) i n.block
+owner_set ns i n l = ap (λ f k. option_and_then (λ m. m.block) (f k)) (nth_at ns i n l) ∙ at_map (option_and_then (λ m. m.block)) (slice_get ns) i (Some n)
+
 -- a search for the block b that has come to i, which is a node or an end of its chain
 pub record Search (c : Chains) (b i : ℕ) : Type 0 where
   pub going : Going (next_in c) (home_in c) (bucket_of b) i
@@ -180,6 +196,28 @@ module _ (c : Chains) (b : ℕ) where
     same = passed (next_in c) (home_in c) (bucket_of b) i s.going (block_in c) b l ne ∙ s.same;
   }
 
+  -- the node is compared with the block
+  pub is_it : (i : ℕ) (d : Node) → i < 256 → is_number b (get_or c.nodes i d).block ≡ true → block_in c i ≡ b
+  is_it i d l t = let w = c.wide in ap (λ o. block_number (option_and_then (λ (n : Node). n.block) o)) (slice_get-get_or c.nodes i d (omega arith)) ∙ each (get_or c.nodes i d).block t
+    where
+      each : (o : Option Block) → is_number b o ≡ true → block_number o ≡ b
+      each (Some k) t = eqb-true k.number b t
+      each None t = absurd (both_ways _ refl t)
+
+  pub goes_past : (i : ℕ) (d : Node) → Search c b i → i < 256 → is_number b (get_or c.nodes i d).block ≡ false → Search c b (next_in c i)
+  goes_past i d s l f =
+      let w = c.wide in
+      let own = ap (option_and_then (λ (n : Node). n.block)) (slice_get-get_or c.nodes i d (omega arith)) in
+      let h = home_there i s l in
+      goes_on i s l (λ e. both_ways _ f (each (get_or c.nodes i d).block (sym (ap is_some own) ∙ (flag_of_home c i (omega arith)).0) (sym (ap block_number own) ∙ e)))
+    where
+      home_there : (i : ℕ) → Search c b i → i < 256 → home_in c i ≡ bucket_of b
+      home_there i s l = (step (next_in c) (home_in c) (bucket_of b) i s.going l).4
+
+      each : (o : Option Block) → is_some o ≡ true → block_number o ≡ b → is_number b o ≡ true
+      each (Some k) t e = eq-eqb k.number b e
+      each None t e = absurd (both_ways _ refl t)
+
   pub ends : (i : ℕ) → Search c b i → 256 ≤ i → body_of c b ≡ None
   ends i s l = no_body c b (sym s.same ∙ nowhere (next_in c) (home_in c) (bucket_of b) i s.going (block_in c) b l)
 
@@ -193,4 +231,17 @@ module _ (c : Chains) (b : ℕ) where
 pub linked_block : (c : Chains) (b i : ℕ) → Search c b i → i < 256 → block_in c i ≡ b → block_of_node c i ≡ Some b
 linked_block c b i s l e =
     let h = home c b i s l in
-    cond-true _ _ _ (flag_of_home c i (omega arith)).0 ∙ ap Some e
+    each (owner c.nodes i) (flag_of_home c i (omega arith)).0 e
+  where
+    each : (o : Option Block) → is_some o ≡ true → block_number o ≡ b → option_map (λ k. k.number) o ≡ Some b
+    each (Some k) t d = ap Some d
+    each None t d = absurd (both_ways false refl t)
+
+-- a node that has a block is one of the 256
+pub linked_small : (c : Chains) (i b : ℕ) → block_of_node c i ≡ Some b → i < 256
+linked_small c i b e = ⊎_elim
+    (λ l. l)
+    (λ g. let w = c.wide in
+    let none : block_of_node c i ≡ None = ap (λ o. option_map (λ (k : Block). k.number) (option_and_then (λ (n : Node). n.block) o)) (slice_get_past c.nodes i (omega arith)) in
+    absurd (both_ways _ (ap is_some none) (ap is_some e)))
+    (cases_lt i 256)

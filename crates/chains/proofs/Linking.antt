@@ -176,6 +176,9 @@ module _ (nx hm bl : ℕ → ℕ) (sound : Holds nx hm) (single : NoTwice nx bl)
     abbrev pub cut_home : ℕ → ℕ
     cut_home = at hm (nx q) 64
 
+    abbrev pub cut_block : ℕ → ℕ
+    cut_block = at bl (nx q) 0
+
     -- the place is a node of the chain
     on_chain : on q (chain_from nx b) ≡ true → (q < 256) × ((m : List ℕ) × Chained nx hm b j m)
     on_chain h =
@@ -286,21 +289,21 @@ module _ (nx hm bl : ℕ → ℕ) (sound : Holds nx hm) (single : NoTwice nx bl)
         (λ z l ne. subst (λ (w : ℕ). chained cut_next cut_home z w (walk cut_next 256 w) ≡ true) (sym (head_k z l ne)) (settled cut_next cut_home z (nx (256 + z)) (chain_from nx z) (stays z (omega arith) ne)))
         k (omega arith)
 
-    same : (y : ℕ) → (y ≡ j → ⊥) → bl y ≡ bl y
-    same y ne = refl
+    same : (y : ℕ) → (y ≡ j → ⊥) → cut_block y ≡ bl y
+    same y ne = at_there bl j 0 y ne
 
-    pub cut_others : (c : ℕ) → (c ≡ bl (nx q) → ⊥) → node_for cut_next bl c ≡ node_for nx bl c
-    cut_others c ne = by_place (λ k. k < 64 → node_with bl c (chain_from cut_next k) ≡ node_with bl c (chain_from nx k))
-        (λ m. ap (node_with bl c) chain_b ∙ node_cut nx hm bl bl b j c same (λ z. ne (sym z)) (nx (256 + b)) (chain_from nx b) (was b (omega arith)))
+    pub cut_others : (c : ℕ) → (c ≡ bl (nx q) → ⊥) → node_for cut_next cut_block c ≡ node_for nx bl c
+    cut_others c ne = by_place (λ k. k < 64 → node_with cut_block c (chain_from cut_next k) ≡ node_with bl c (chain_from nx k))
+        (λ m. ap (node_with cut_block c) chain_b ∙ node_cut nx hm bl cut_block b j c same (λ z. ne (sym z)) (nx (256 + b)) (chain_from nx b) (was b (omega arith)))
         (λ m. absurd (omega arith))
-        (λ k l nk m. ap (node_with bl c) (chain_k k l nk))
+        (λ k l nk m. ap (node_with cut_block c) (chain_k k l nk) ∙ node_framed bl cut_block j c same (chain_from nx k) (off_j k (omega arith) nk))
         (bucket_of c) (omega arith) (omega arith)
 
-    pub cut_single : NoTwice cut_next bl
-    cut_single k lt = by_place (λ z. z < 64 → no_twice bl (chain_from cut_next z) ≡ true)
-        (λ m. subst (λ (l : List ℕ). no_twice bl l ≡ true) (sym chain_b) (twice_cut bl bl j same nx hm b (nx (256 + b)) (chain_from nx b) (was b (omega arith)) (single b live)))
+    pub cut_single : NoTwice cut_next cut_block
+    cut_single k lt = by_place (λ z. z < 64 → no_twice cut_block (chain_from cut_next z) ≡ true)
+        (λ m. subst (λ (l : List ℕ). no_twice cut_block l ≡ true) (sym chain_b) (twice_cut bl cut_block j same nx hm b (nx (256 + b)) (chain_from nx b) (was b (omega arith)) (single b live)))
         (λ m. absurd (omega arith))
-        (λ z l ne m. subst (λ (l : List ℕ). no_twice bl l ≡ true) (sym (chain_k z l ne)) (single z l))
+        (λ z l ne m. subst (λ (l : List ℕ). no_twice cut_block l ≡ true) (sym (chain_k z l ne)) (twice_framed bl cut_block j same (chain_from nx z) (off_j z (omega arith) ne) (single z l)))
         k (omega arith) lt
 
     pub cut_kept : NoneLost cut_next cut_home
@@ -318,9 +321,9 @@ module _ (nx hm bl : ℕ → ℕ) (sound : Holds nx hm) (single : NoTwice nx bl)
             (λ k l ne h. subst (λ (m : List ℕ). on y m ≡ true) (sym (chain_k k l ne)) h)
 
     -- the node's own block is gone
-    pub cut_gone : bucket_of (bl (nx q)) ≡ b → node_for cut_next bl (bl (nx q)) ≡ 256
+    pub cut_gone : bucket_of (bl (nx q)) ≡ b → node_for cut_next cut_block (bl (nx q)) ≡ 256
     cut_gone e =
-        ap (λ (k : ℕ). node_with bl (bl j) (chain_from cut_next k)) e
-        ∙ ap (node_with bl (bl j)) chain_b
-        ∙ gone bl bl j same nx hm b (nx (256 + b)) (chain_from nx b) (was b (omega arith)) (single b live)
+        ap (λ (k : ℕ). node_with cut_block (bl j) (chain_from cut_next k)) e
+        ∙ ap (node_with cut_block (bl j)) chain_b
+        ∙ gone bl cut_block j same nx hm b (nx (256 + b)) (chain_from nx b) (was b (omega arith)) (single b live)
         (on_not_off j (chain_from nx b) (subst (λ (k : ℕ). on j (chain_from nx k) ≡ true) at_it.2 (kept j follows)))

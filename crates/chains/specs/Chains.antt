@@ -1,5 +1,6 @@
 -- What is held of each block.
-use Rattle.std.specs.Prelude.{◌≡◌, ℕ, ◌^◌, ◌<◌, ◌≤◌, cond, length, is_some, Some, None, Option, MatchOption}
+use Rattle.std.specs.Prelude.{◌≡◌, ℕ, ◌^◌, ◌≤◌, length, is_some, Some, None, Option, MatchOption, slice_index_or}
+use Rattle.std.specs.Option.{option_map}
 use Rattle.std.specs.List.{slice_get}
 use Rattle.words.specs.Layout.{bucket_of}
 use Rattle.words.specs.Points.{at}
@@ -7,23 +8,24 @@ use Rattle.chains.specs.Counting.{how_many}
 use Rattle.chains.specs.declared.chains.Chains.{Chains}
 use Rattle.chains.specs.declared.node.Body.{Body}
 use Rattle.chains.specs.declared.node.Found.{Found}
-use Rattle.chains.specs.Nodes.{link_at, block_at, flag_at, home_of, chain_from, node_for, Leads}
+use Rattle.chains.specs.declared.node.Way.{Way}
+use Rattle.chains.specs.Nodes.{link_at, block_at, owner, home_at, chain_from, node_for, IsPlace}
 
 -- the node of the block, or 256
 abbrev pub node_of : Chains → ℕ → ℕ
-node_of c b = node_for (link_at c.links) (block_at c.blocks) b
+node_of c b = node_for (link_at c.links) (block_at c.nodes) b
+
+-- what the node i holds
+abbrev pub body_at : Chains → ℕ → Option Body
+body_at c i = option_map (λ n. n.body) (slice_get c.nodes i)
 
 -- what is held of the block
 abbrev pub body_of : Chains → ℕ → Option Body
-body_of c b = slice_get c.bodies (node_of c b)
+body_of c b = body_at c (node_of c b)
 
 -- the block of a node, where it is linked
 abbrev pub block_of_node : Chains → ℕ → Option ℕ
-block_of_node c i = cond (flag_at c.linked i) (Some (block_at c.blocks i)) None
-
--- the place before the node of the block b
-abbrev pub Before : Chains → ℕ → ℕ → Type 0
-Before c b q = Leads (home_of (block_at c.blocks) (flag_at c.linked)) (bucket_of b) q × (link_at c.links q ≡ node_of c b) × (node_of c b < 256)
+block_of_node c i = option_map (λ b. b.number) (owner c.nodes i)
 
 -- the block's node was found after that many nodes of its chain
 pub record Finds (c : Chains) (b : ℕ) (f : Found) : Type 0 where
@@ -31,6 +33,12 @@ pub record Finds (c : Chains) (b : ℕ) (f : Found) : Type 0 where
   pub block : block_of_node c f.node ≡ Some b
   pub some : 1 ≤ f.looked
   pub most : f.looked ≤ length (chain_from (link_at c.links) (bucket_of b))
+
+-- the block's node was found, and a place of its chain whose link leads to it
+pub record Leads (c : Chains) (b : ℕ) (w : Way) : Type 0 where
+  pub found : Finds c b w.found
+  pub place : IsPlace (home_at c.nodes) (bucket_of b) w.place
+  pub link : slice_index_or c.links w.place None ≡ Some w.found.node
 
 -- the block b has the body y now, and every other block what it had
 abbrev pub Puts : Chains → ℕ → Option Body → Chains → Type 0

@@ -1,3 +1,4 @@
+pub mod Blocks
 pub mod Counting
 pub mod Links
 pub mod Nodes

@@ -1,20 +1,37 @@
--- The links, blocks and flags of 256 nodes, as functions; which nodes are on which chain.
-use Rattle.std.specs.Prelude.{◌≡◌, ℕ, ◌+◌, ◌^◌, ◌<◌, Bool, true, false, cond, ◌⊎◌, List, nat_lt, slice_index, slice_index_or}
+-- The links and the blocks of 256 nodes, as functions; which nodes are on which chain.
+use Rattle.std.specs.Prelude.{◌≡◌, ℕ, ◌+◌, ◌<◌, Bool, true, cond, ◌⊎◌, List, Some, None, Option, is_some, ◌==◌, nat_lt, option_and_then, slice_index_or}
+use Rattle.std.specs.List.{slice_get}
+use Rattle.words.specs.declared.address.Block.{Block}
 use Rattle.words.specs.Layout.{bucket_of}
+use Rattle.chains.specs.declared.node.Node.{Node}
+use Rattle.chains.specs.Blocks.{block_number}
 use Rattle.chains.specs.Links.{walk, chained, node_with, no_twice, on}
 
-abbrev pub link_at : List ℕ → ℕ → ℕ
-link_at ls i = slice_index ls i
+-- a link as a number: 256 where there is no next node
+abbrev pub link_number : Option ℕ → ℕ
+link_number (Some i) = i
+link_number None = 256
 
-abbrev pub block_at : List ℕ → ℕ → ℕ
-block_at bs i = slice_index bs i
+abbrev pub link_at : List (Option ℕ) → ℕ → ℕ
+link_at ls i = link_number (slice_index_or ls i None)
 
-abbrev pub flag_at : List Bool → ℕ → Bool
-flag_at fs i = slice_index_or fs i false
+-- the links of new chains: every node is free, and each leads to the next
+abbrev pub first_link : ℕ → Option ℕ
+first_link i = cond (nat_lt i 255) (Some (i + 1)) (cond (i == 320) (Some 0) None)
+
+-- the block of a node, which one that is linked has
+abbrev pub owner : List Node → ℕ → Option Block
+owner ns i = option_and_then (λ n. n.block) (slice_get ns i)
+
+abbrev pub is_linked : List Node → ℕ → Bool
+is_linked ns i = is_some (owner ns i)
+
+abbrev pub block_at : List Node → ℕ → ℕ
+block_at ns i = block_number (owner ns i)
 
 -- the chain that a node belongs to: that of its block's bucket, or 64, that of the free nodes
 abbrev pub home_of : (ℕ → ℕ) → (ℕ → Bool) → ℕ → ℕ
-home_of block flag i = cond (flag i) (bucket_of (block i)) 64
+home_of block linked i = cond (linked i) (bucket_of (block i)) 64
 
 -- the nodes of the chain b
 abbrev pub chain_from : (ℕ → ℕ) → ℕ → List ℕ
@@ -33,26 +50,26 @@ abbrev pub NoneLost : (ℕ → ℕ) → (ℕ → ℕ) → Type 0
 NoneLost next home = (i : ℕ) → i < 256 → on i (chain_from next (home i)) ≡ true
 
 -- the place q is the head of the chain b, or a node of it
-abbrev pub Leads : (ℕ → ℕ) → ℕ → ℕ → Type 0
-Leads home b q = (q ≡ 256 + b) ⊎ ((q < 256) × (home q ≡ b))
+abbrev pub IsPlace : (ℕ → ℕ) → ℕ → ℕ → Type 0
+IsPlace home b q = (q ≡ 256 + b) ⊎ ((q < 256) × (home q ≡ b))
 
 -- the node of the block b, or 256
 abbrev pub node_for : (ℕ → ℕ) → (ℕ → ℕ) → ℕ → ℕ
 node_for next block b = node_with block b (chain_from next (bucket_of b))
 
-abbrev pub Sound : List ℕ → List ℕ → List Bool → Type 0
-Sound ls bs fs = Holds (link_at ls) (home_of (block_at bs) (flag_at fs))
+-- the chain that a node belongs to
+abbrev pub home_at : List Node → ℕ → ℕ
+home_at ns = home_of (block_at ns) (is_linked ns)
 
-abbrev pub Single : List ℕ → List ℕ → Type 0
-Single ls bs = NoTwice (link_at ls) (block_at bs)
+abbrev pub Sound : List (Option ℕ) → List Node → Type 0
+Sound ls ns = Holds (link_at ls) (home_at ns)
 
-abbrev pub Kept : List ℕ → List ℕ → List Bool → Type 0
-Kept ls bs fs = NoneLost (link_at ls) (home_of (block_at bs) (flag_at fs))
+abbrev pub Single : List (Option ℕ) → List Node → Type 0
+Single ls ns = NoTwice (link_at ls) (block_at ns)
+
+abbrev pub Kept : List (Option ℕ) → List Node → Type 0
+Kept ls ns = NoneLost (link_at ls) (home_at ns)
 
 -- the block b has a node
-abbrev pub is_held : List ℕ → List ℕ → ℕ → Bool
-is_held ls bs b = nat_lt (node_for (link_at ls) (block_at bs) b) 256
-
--- the blocks of linked nodes are blocks
-abbrev pub Near : List ℕ → List Bool → Type 0
-Near bs fs = (i : ℕ) → flag_at fs i ≡ true → block_at bs i < 2 ^ 48
+abbrev pub is_held : List (Option ℕ) → List Node → ℕ → Bool
+is_held ls ns b = nat_lt (node_for (link_at ls) (block_at ns) b) 256

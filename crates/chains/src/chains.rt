@@ -1,24 +1,174 @@
-// 256 nodes in 64 chains, and those that are free in one more.
-ghost use Rattle.std.specs.Prelude.{◌≡◌, ◌^◌, length};
+// Blocks on nodes: 256 nodes in 64 chains, and those that are free in one more.
+ghost use Rattle.std.specs.Prelude.{◌≡◌, ℕ, ◌^◌, None, Some, MatchOption, MatchResult, length, map, slice_index_or};
+ghost use Rattle.std.specs.List.{range_with_len};
+ghost use Rattle.words.specs.Points.{at};
 ghost use Rattle.chains.specs.Counting.{how_many};
-ghost use Rattle.chains.specs.Nodes.{Sound, Single, Kept, Near, flag_at, is_held};
+ghost use Rattle.chains.specs.Nodes.{Sound, Single, Kept, first_link, is_linked, is_held};
 
-use crate::node::Body;
+use crate::node::{Body, Found, NoNode, Node, RowNumber, Way};
+use std::array;
+use words::Block;
 
-// A link leads to the next node; one of 256 or more ends the chain. After the links of the 256 nodes come the first links of
-// the 64 chains, and of the free nodes. A node that is linked has a block, and is on the chain of the block's bucket.
+// Of the places of the links: the first head, and the head of the free nodes.
+const HEADS: usize = 256;
+
+const FREE: usize = 320;
+
+// A link leads to the next node, where there is one. The links of the 256 nodes are followed by the heads of the 64 chains and of
+// the free nodes: in one array, so that a link is written alike in a node and in a head. A node that has a block is on the chain
+// of the block's bucket.
 #[derive(Drop)]
 pub struct Chains {
-    pub(crate) links: [u16; 321],
-    pub(crate) blocks: [u64; 256],
-    pub(crate) linked: [bool; 256],
-    pub(crate) bodies: [Body; 256],
-    pub(crate) count: u16,
-    ghost wide: { length bodies ≡ 256 },
-    ghost sound: { Sound links blocks linked },
-    ghost single: { Single links blocks },
-    ghost kept: { Kept links blocks linked },
-    ghost near: { Near blocks linked },
-    ghost nodes: { count ≡ how_many (flag_at linked) 256 },
-    ghost held: { count ≡ how_many (is_held links blocks) (2 ^ 48) },
+    links: [Option<u8>; 321],
+    nodes: [Node; 256],
+    count: u16,
+    ghost wide: { length nodes ≡ 256 },
+    ghost sound: { Sound links nodes },
+    ghost single: { Single links nodes },
+    ghost kept: { Kept links nodes },
+    ghost counted: { count ≡ how_many (is_linked nodes) 256 },
+    ghost held: { count ≡ how_many (is_held links nodes) (2 ^ 48) },
+}
+
+// Where a place leads while every node is free: the free head to the first node, and each node to the next.
+fn first_link(place: usize) -> Option<u8>
+    ensures { result ≡ first_link place }
+{
+    match place {
+        0..=254 => Some(place as u8 + 1),
+        FREE => Some(0),
+        _ => None,
+    }
+}
+
+fn first_links() -> [Option<u8>; 321]
+    ensures { result ≡ map first_link (range_with_len 0 321) }
+{
+    array::from_fn(first_link)
+}
+
+impl Chains {
+    ghost use Rattle.chains.specs.Chains.{body_of, body_at, Leads, Finds, Puts, Writes, Nodes};
+
+    // No block has a node.
+    pub fn new() -> Chains
+        ensures { (b : ℕ) → body_of result b ≡ None }
+    {
+        let spare = Node {
+            block: None,
+            body: Body::Row(RowNumber::first()),
+        };
+        Chains {
+            links: first_links(),
+            nodes: [spare; 256],
+            count: 0,
+        }
+    }
+
+    // How many blocks have a node.
+    pub fn count(&self) -> u16
+        ensures { Nodes self.now result }
+    {
+        self.count
+    }
+
+    // The node of the block.
+    pub fn find(&self, block: Block) -> Option<Found>
+        ensures { MatchOption result (body_of self.now block.number ≡ None) (λ f. Finds self.now block.number f) }
+    {
+        Some(self.way_to(block)?.found)
+    }
+
+    // What a node holds.
+    pub fn body(&self, node: u8) -> Body
+        ensures { body_at self.now node ≡ Some result }
+    {
+        self.nodes[usize::from(node)].body
+    }
+
+    // Writes what a node holds.
+    pub fn replace(&mut self, node: u8, body: Body)
+        ensures { Writes self.old node body self.new }
+    {
+        self.nodes[usize::from(node)].body = body;
+    }
+
+    // Writes what is held of the block, on a new node where it has none.
+    pub fn insert(&mut self, block: Block, body: Body) -> Result<(), NoNode>
+        ensures { MatchResult result
+            (λ x. Puts self.old block.number (Some body) self.new)
+            (λ e. (body_of self.old block.number ≡ None) × Nodes self.old 256 × (self.new ≡ self.old)) }
+    {
+        if let Some(found) = self.find(block) {
+            self.replace(found.node, body);
+            return Ok(());
+        }
+        let node = self.links[FREE].ok_or(NoNode)?;
+        self.push(node, block, body);
+        Ok(())
+    }
+
+    // Takes the block's node out; what it held.
+    pub fn remove(&mut self, block: Block) -> Option<Body>
+        ensures answer { result ≡ body_of self.old block.number }
+        ensures held { Puts self.old block.number None self.new }
+    {
+        let way = self.way_to(block)?;
+        Some(self.unlink(block, way))
+    }
+
+    // The block's node, with the place whose link leads to it.
+    fn way_to(&self, block: Block) -> Option<Way>
+        ensures { MatchOption result (body_of self.now block.number ≡ None) (λ w. Leads self.now block.number w) }
+    {
+        let mut place = HEADS + block.bucket();
+        let mut looked = 0;
+        while let Some(node) = self.links[place] {
+            looked += 1;
+            if self.nodes[usize::from(node)].is_of(block) {
+                let found = Found { node, looked };
+                return Some(Way { place, found });
+            }
+            place = usize::from(node);
+        }
+        None
+    }
+
+    // Links the first free node at the head of the block's chain.
+    fn push(&mut self, node: u8, block: Block, body: Body)
+        requires absent { body_of self.old block.number ≡ None }
+        requires free { slice_index_or self.old.links 320 None ≡ Some node }
+        ensures { Puts self.old block.number (Some body) self.new }
+    {
+        let own = usize::from(node);
+        let head = HEADS + block.bucket();
+        let rest = self.links[own];
+        let first = self.links[head];
+        self.links[own] = first;
+        self.links[FREE] = rest;
+        self.links[head] = Some(node);
+        self.nodes[own] = Node {
+            block: Some(block),
+            body,
+        };
+        self.count += 1;
+    }
+
+    // Unlinks the block's node; what it held.
+    fn unlink(&mut self, block: Block, way: Way) -> Body
+        requires { Leads self.old block.number way }
+        ensures answer { Some result ≡ body_of self.old block.number }
+        ensures held { Puts self.old block.number None self.new }
+    {
+        let own = usize::from(way.found.node);
+        let rest = self.links[own];
+        let free = self.links[FREE];
+        self.links[way.place] = rest;
+        self.links[own] = free;
+        self.links[FREE] = Some(way.found.node);
+        let body = self.nodes[own].body;
+        self.nodes[own] = Node { block: None, body };
+        self.count -= 1;
+        body
+    }
 }

@@ -1,7 +1,6 @@
 // Blocks on nodes, in chains by bucket.
 #![tactic(auto)]
 
-mod chain_calls;
 mod chains;
 mod node;
 

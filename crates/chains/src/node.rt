@@ -1,10 +1,11 @@
-// What a node holds of its block.
+// A node, and what it holds of its block.
 ghost use Rattle.std.specs.Prelude.{◌≡◌, ◌<◌};
+ghost use Rattle.chains.specs.Blocks.{is_number};
 
-use words::CompactWord;
+use words::{Block, CompactWord};
 
 // One of 128 rows of sixteen full words, by its number.
-#[derive(Clone, Copy)]
+#[derive(Clone, Copy, PartialEq, Eq, Debug)]
 pub struct RowNumber {
     pub number: u8,
     ghost within: { number < 128 },
@@ -19,17 +20,39 @@ impl RowNumber {
 }
 
 // The pages of a block: in one compact word, or in a row.
-#[derive(Clone, Copy)]
+#[derive(Clone, Copy, PartialEq, Eq, Debug)]
 pub enum Body {
     Compact(CompactWord),
     Row(RowNumber),
 }
 
+// A node that has no block is free; what it held last is of no account.
+#[derive(Clone, Copy, PartialEq, Eq, Debug)]
+pub struct Node {
+    pub block: Option<Block>,
+    pub body: Body,
+}
+
+impl Node {
+    pub(crate) fn is_of(&self, block: Block) -> bool
+        ensures { result ≡ is_number block.number self.now.block }
+    {
+        self.block == Some(block)
+    }
+}
+
 // The node of a block, and how many nodes were looked at to find it.
-#[derive(Clone, Copy)]
+#[derive(Clone, Copy, PartialEq, Eq, Debug)]
 pub struct Found {
     pub node: u8,
     pub looked: u16,
+}
+
+// A node that was found, and the place, a head or a node, whose link leads to it.
+#[derive(Clone, Copy)]
+pub(crate) struct Way {
+    pub(crate) place: usize,
+    pub(crate) found: Found,
 }
 
 // All nodes are linked.

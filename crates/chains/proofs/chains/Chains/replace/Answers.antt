@@ -1,15 +1,22 @@
-use Rattle.std.proofs.Common.{◌≡◌, ℕ, set, Some, Option, MatchOption, subst, arith}
-use Rattle.std.specs.List.{slice_get}
-use Rattle.words.specs.Points.{at}
-use Rattle.chains.specs.declared.node.Body.{Body}
-use Rattle.chains.specs.Chains.{node_of, body_of, block_of_node}
-use Rattle.chains.proofs.Changes.{rewritten}
+use Rattle.std.proofs.Common.{◌∙◌, arith, length-set}
+use Rattle.chains.proofs.Changes.{replaced_sound, replaced_single, replaced_kept, replaced_counted, replaced_held, replaced_puts}
 use Rattle.chains.proofs.chains.Chains.replace.Goals as goal
 
-pub returns : goal.returns
-returns c =
+pub invariant_of-self : goal.invariant_of-self
+invariant_of-self c =
     let s = c.args.self.now in
+    let i = c.from.result in
+    let d = c.index-self-from.result in
     let y = c.args.body in
-    let f : ℕ → Option Body = λ b. slice_get (set s.bodies c.from.result y) (node_of s b) in
-    let P : ℕ → Type 0 = λ k. MatchOption (block_of_node s k) (f ≡ body_of s) (λ b. f ≡ at (body_of s) b (Some y)) in
-    subst P c.from.ensures (rewritten s c.from.result y (omega (arith, c.from.ensures)))
+    let e = c.from.ensures in
+    record {
+      wide = length-set s.nodes _ _ ∙ s.wide;
+      sound = replaced_sound s i d y (omega arith);
+      single = replaced_single s i d y (omega arith);
+      kept = replaced_kept s i d y (omega arith);
+      counted = replaced_counted s i d y (omega arith);
+      held = replaced_held s i d y (omega arith);
+    }
+
+pub returns : goal.returns
+returns c = let e = c.from.ensures in replaced_puts c.args.self.now c.from.result c.index-self-from.result c.args.body (omega arith) c.args.node e
