@@ -1,5 +1,5 @@
 -- What is held of a block, by its node.
-use Rattle.std.proofs.Common.{option_and_then, Option, ◌≡◌, ℕ, zero, suc, ◌+◌, ◌<◌, ◌≤◌, true, false, eqb, ltb, ◌≢◌, List, [], ◌∷◌, length, get_or, set, is_some, Some, None, sym, refl, ap, ◌∙◌, subst, ⊎_elim, arith}
+use Rattle.std.proofs.Common.{◌^◌, option_and_then, Option, ◌≡◌, ℕ, zero, suc, ◌+◌, ◌<◌, ◌≤◌, true, false, eqb, ltb, ◌≢◌, List, [], ◌∷◌, length, get_or, set, is_some, Some, None, sym, refl, ap, ◌∙◌, subst, ⊎_elim, arith}
 use mathlib.Core.Path.{fun_ext}
 use Rattle.std.proofs.lemmas.List.{get_or-set_same, get_or-set_other}
 use Rattle.std.proofs.lemmas.Option.{slice_get_past, slice_get-get_or}
@@ -13,6 +13,7 @@ use Rattle.chains.specs.Links.{walk, node_with, no_twice, on}
 use Rattle.std.specs.Option.{option_map}
 use Rattle.words.specs.declared.address.Block.{Block}
 use Rattle.chains.specs.declared.node.Node.{Node}
+use Rattle.chains.specs.Counting.{how_many}
 use Rattle.chains.specs.Blocks.{block_number, is_number}
 use Rattle.chains.specs.Nodes.{link_number, link_at, owner, is_linked, block_at, home_at, chain_from}
 use Rattle.chains.proofs.Linking.{at_here, at_there, at_home}
@@ -245,3 +246,7 @@ linked_small c i b e = ⊎_elim
     let none : block_of_node c i ≡ None = ap (λ o. option_map (λ (k : Block). k.number) (option_and_then (λ (n : Node). n.block) o)) (slice_get_past c.nodes i (omega arith)) in
     absurd (both_ways _ (ap is_some none) (ap is_some e)))
     (cases_lt i 256)
+
+-- the counter says how many blocks have a node
+pub count_all : (c : Chains) → c.count ≡ how_many (λ b. is_some (body_of c b)) (2 ^ 48)
+count_all c = c.held ∙ ap (λ f. how_many f (2 ^ 48)) (fun_ext (λ b. sym (held_some c b)))

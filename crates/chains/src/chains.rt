@@ -66,6 +66,7 @@ impl Chains {
     }
 
     // How many blocks have a node.
+    #[tactic(auto, using(crate::proofs::Held::count_all))]
     pub fn count(&self) -> u16
         ensures { Nodes self.now result }
     {

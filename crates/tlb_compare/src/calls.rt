@@ -2,8 +2,9 @@
 ghost use Rattle.std.specs.Prelude.{◌<◌};
 ghost use Rattle.tlb_compare.specs.declared.calls.Call.TheVariants.{Probe, Load, Purge, Flush};
 
-use crate::plain::{COMPACT, FULL, PlainEntry};
+use crate::plain::PlainEntry;
 use crate::random::Random;
+use words::Form;
 
 #[derive(Clone, Copy)]
 pub enum Call {
@@ -46,7 +47,7 @@ fn draw_load(random: &mut Random) -> Call
     let entry = match random.below(16) {
         0 => PlainEntry {
             page: own,
-            form: FULL,
+            form: Form::Full,
             word: 0,
         },
         1..=6 => full(random, own),
@@ -59,7 +60,7 @@ fn draw_load(random: &mut Random) -> Call
 fn full(random: &mut Random, page: u64) -> PlainEntry {
     PlainEntry {
         page,
-        form: FULL,
+        form: Form::Full,
         word: 1 << 63 | random.below(0x1000_0000) << 12 | random.below(0x1000),
     }
 }
@@ -69,7 +70,7 @@ fn compact(random: &mut Random, page: u64) -> PlainEntry {
     let offsets = random.below(0x1_0000) | 1 << page % 16;
     PlainEntry {
         page,
-        form: COMPACT,
+        form: Form::Compact,
         word: offsets << 48 | random.below(0x100_0000) << 16 | random.below(0x1000),
     }
 }

@@ -1,6 +1,7 @@
 // Why a comparison stops.
 use std::alloc::AllocError;
 use std::fmt;
+use words::BadNumber;
 
 #[derive(Clone, Copy)]
 pub enum Fault {
@@ -13,6 +14,12 @@ pub enum Fault {
 impl From<AllocError> for Fault {
     fn from(_: AllocError) -> Fault {
         Fault::NoMemory
+    }
+}
+
+impl From<BadNumber> for Fault {
+    fn from(_: BadNumber) -> Fault {
+        Fault::BadNumbers
     }
 }
 

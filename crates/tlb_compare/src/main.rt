@@ -8,11 +8,12 @@ mod model;
 mod pairs;
 mod plain;
 mod random;
+mod slots;
 
 use anyhow::anyhow;
 use compare::{CALLS, compare};
 use fault::Stop;
-use model::{OnePageModel, PartialModel, TwoLevelModel};
+use model::{OnePage, PartialSubblock, SlotModel, TwoLevelModel};
 use tlb::{OnePageTlb, PartialSubblockTlb, TwoLevelTlb};
 
 fn main(rt: HostRuntime) -> anyhow::Result<()> {
@@ -24,28 +25,37 @@ fn run(rt: &HostRuntime) -> anyhow::Result<()> {
     report(
         rt,
         "one-page",
-        compare(OnePageTlb::new(), OnePageModel::new(heap)),
+        compare(OnePageTlb::new(), SlotModel::new(heap, OnePage)),
     )?;
     report(
         rt,
         "partial-subblock",
-        compare(PartialSubblockTlb::new(), PartialModel::new(heap)),
+        compare(
+            PartialSubblockTlb::new(),
+            SlotModel::new(heap, PartialSubblock),
+        ),
     )?;
     let two = TwoLevelTlb::new(OnePageTlb::new(), PartialSubblockTlb::new());
-    let two_model = TwoLevelModel::new(OnePageModel::new(heap), PartialModel::new(heap));
+    let two_model = TwoLevelModel::new(
+        SlotModel::new(heap, OnePage),
+        SlotModel::new(heap, PartialSubblock),
+    );
     report(
         rt,
         "one-page over partial-subblock",
         compare(two, two_model),
     )?;
     let below = TwoLevelTlb::new(PartialSubblockTlb::new(), OnePageTlb::new());
-    let below_model = TwoLevelModel::new(PartialModel::new(heap), OnePageModel::new(heap));
+    let below_model = TwoLevelModel::new(
+        SlotModel::new(heap, PartialSubblock),
+        SlotModel::new(heap, OnePage),
+    );
     report(
         rt,
         "one-page over partial-subblock over one-page",
         compare(
             TwoLevelTlb::new(OnePageTlb::new(), below),
-            TwoLevelModel::new(OnePageModel::new(heap), below_model),
+            TwoLevelModel::new(SlotModel::new(heap, OnePage), below_model),
         ),
     )
 }

@@ -1,8 +1,8 @@
 // What each TLB should do, over plain lists of pairs.
 ghost use Rattle.std.specs.Prelude.{◌≡◌, vec_len};
 
-use crate::pairs::PairList;
 use crate::plain::{PlainEntry, PlainPair};
+use crate::slots::Slots;
 use std::alloc::{AllocError, Global};
 
 pub trait Model {
@@ -15,84 +15,88 @@ pub trait Model {
     fn flush(&mut self);
 }
 
-#[derive(Drop)]
-pub struct OnePageModel {
-    pairs: PairList,
+// How slots take in an entry that has this pair of the page.
+pub trait LoadRule {
+    fn take_in(
+        &self,
+        slots: &mut Slots,
+        entry: PlainEntry,
+        pair: PlainPair,
+    ) -> Result<(), AllocError>;
 }
 
-impl OnePageModel {
-    pub fn new(heap: Global) -> OnePageModel
-        ensures { (vec_len result.pairs.held ≡ 0) × (result.pairs.hand ≡ 0) }
-    {
-        OnePageModel {
-            pairs: PairList::new(heap),
-        }
-    }
-}
+// A slot holds one page, and a page that is held keeps its slot.
+#[derive(Clone, Copy)]
+pub struct OnePage;
 
-impl Model for OnePageModel {
-    fn probe(&mut self, page: u64) -> Result<Option<PlainPair>, AllocError> {
-        Ok(self.pairs.pair(page))
-    }
-
-    // A page that is held keeps its slot.
-    fn load(&mut self, entry: PlainEntry, page: u64) -> Result<(), AllocError> {
-        let Some(pair) = entry.pair(page) else {
-            return Ok(());
-        };
-        let slot = match self.pairs.slot(page) {
+impl LoadRule for OnePage {
+    fn take_in(
+        &self,
+        slots: &mut Slots,
+        _entry: PlainEntry,
+        pair: PlainPair,
+    ) -> Result<(), AllocError> {
+        let slot = match slots.pairs.slot(pair.page) {
             Some(slot) => slot,
-            None => self.pairs.free_slot(),
+            None => slots.free_slot(),
         };
-        self.pairs.drop_page(page);
-        self.pairs.add(slot, pair)
+        slots.pairs.drop_page(pair.page);
+        slots.pairs.add(slot, pair)
     }
+}
 
-    fn purge(&mut self, page: u64) {
-        self.pairs.drop_page(page);
-    }
+// All pairs of an entry share a slot.
+#[derive(Clone, Copy)]
+pub struct PartialSubblock;
 
-    fn flush(&mut self) {
-        self.pairs.clear();
+impl LoadRule for PartialSubblock {
+    fn take_in(
+        &self,
+        slots: &mut Slots,
+        entry: PlainEntry,
+        _pair: PlainPair,
+    ) -> Result<(), AllocError> {
+        slots.pairs.drop_pages_of(entry);
+        let slot = slots.free_slot();
+        slots.pairs.add_pairs_of(slot, entry)
     }
 }
 
 #[derive(Drop)]
-pub struct PartialModel {
-    pairs: PairList,
+pub struct SlotModel<R> {
+    slots: Slots,
+    rule: R,
 }
 
-impl PartialModel {
-    pub fn new(heap: Global) -> PartialModel
-        ensures { (vec_len result.pairs.held ≡ 0) × (result.pairs.hand ≡ 0) }
+impl<R: LoadRule> SlotModel<R> {
+    pub fn new(heap: Global, rule: R) -> SlotModel<R>
+        ensures { (vec_len result.slots.pairs.held ≡ 0) × (result.slots.hand ≡ 0) }
     {
-        PartialModel {
-            pairs: PairList::new(heap),
+        SlotModel {
+            slots: Slots::new(heap),
+            rule,
         }
     }
 }
 
-impl Model for PartialModel {
+impl<R: LoadRule> Model for SlotModel<R> {
     fn probe(&mut self, page: u64) -> Result<Option<PlainPair>, AllocError> {
-        Ok(self.pairs.pair(page))
+        Ok(self.slots.pairs.pair(page))
     }
 
-    // All pairs of an entry share a slot.
     fn load(&mut self, entry: PlainEntry, page: u64) -> Result<(), AllocError> {
-        if entry.pair(page).is_none() {
-            return Ok(());
+        match entry.pair(page) {
+            Some(pair) => self.rule.take_in(&mut self.slots, entry, pair),
+            None => Ok(()),
         }
-        self.pairs.drop_pages_of(entry);
-        let slot = self.pairs.free_slot();
-        self.pairs.add_pairs_of(slot, entry)
     }
 
     fn purge(&mut self, page: u64) {
-        self.pairs.drop_page(page);
+        self.slots.pairs.drop_page(page);
     }
 
     fn flush(&mut self) {
-        self.pairs.clear();
+        self.slots.clear();
     }
 }
 
@@ -115,11 +119,11 @@ impl<M: Model, N: Model> Model for TwoLevelModel<M, N> {
         if let Some(pair) = self.first.probe(page)? {
             return Ok(Some(pair));
         }
-        let Some(pair) = self.second.probe(page)? else {
-            return Ok(None);
-        };
-        self.first.load(PlainEntry::of_pair(pair), page)?;
-        Ok(Some(pair))
+        let answer = self.second.probe(page)?;
+        if let Some(pair) = answer {
+            self.first.load(PlainEntry::from(pair), page)?;
+        }
+        Ok(answer)
     }
 
     fn load(&mut self, entry: PlainEntry, page: u64) -> Result<(), AllocError> {

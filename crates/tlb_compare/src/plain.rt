@@ -1,72 +1,83 @@
 // Pairs and entries as plain numbers, read by the formats of the words alone.
 ghost use Rattle.std.specs.Prelude.{◌≡◌, IfSome};
+ghost use Rattle.words.specs.declared.form.Form.TheVariants.{Full};
 
-pub const COMPACT: u64 = 1;
-
-pub const FULL: u64 = 2;
+use words::{Form, Translation};
 
 // A page with what it is mapped to.
-#[derive(Clone, Copy)]
+#[derive(Clone, Copy, PartialEq, Eq, Debug)]
 pub struct PlainPair {
     pub page: u64,
     pub frame: u64,
     pub attributes: u64,
 }
 
-#[derive(Clone, Copy)]
+impl PlainPair {
+    pub fn new(page: u64, translation: Translation) -> PlainPair
+        ensures page { result.page ≡ page }
+        ensures frame { result.frame ≡ translation.frame }
+        ensures attributes { result.attributes ≡ translation.attributes }
+    {
+        PlainPair {
+            page,
+            frame: u64::from(translation.frame),
+            attributes: u64::from(translation.attributes),
+        }
+    }
+}
+
+#[derive(Clone, Copy, PartialEq, Eq, Debug)]
 pub struct PlainEntry {
     pub page: u64,
-    pub form: u64,
+    pub form: Form,
     pub word: u64,
 }
 
-impl PlainEntry {
-    // The full-form entry of a pair.
-    pub fn of_pair(pair: PlainPair) -> PlainEntry
-        ensures { (result.page ≡ pair.page) × (result.form ≡ 2) }
-    {
+// The full-form entry of a pair.
+impl From<PlainPair> for PlainEntry {
+    ghost from_gives = { λ pair entry. (entry.page ≡ pair.page) × (entry.form ≡ Full) };
+
+    fn from(pair: PlainPair) -> PlainEntry {
         PlainEntry {
             page: pair.page,
-            form: FULL,
+            form: Form::Full,
             word: 1 << 63 | pair.frame << 12 | pair.attributes,
         }
     }
+}
 
+impl PlainEntry {
     // What the entry says of a page.
     pub fn pair(self, page: u64) -> Option<PlainPair>
         ensures { IfSome result (λ pair. pair.page ≡ page) }
     {
-        if self.form == COMPACT {
-            self.compact_pair(page)
-        } else {
-            self.full_pair(page)
-        }
+        let (frame, attributes) = match self.form {
+            Form::Compact => self.compact_parts(page)?,
+            Form::Full => self.full_parts(page)?,
+        };
+        Some(PlainPair {
+            page,
+            frame,
+            attributes,
+        })
     }
 
-    fn compact_pair(self, page: u64) -> Option<PlainPair>
-        ensures { IfSome result (λ pair. pair.page ≡ page) }
-    {
+    // The frame and the attributes that a compact word has for the page.
+    fn compact_parts(self, page: u64) -> Option<(u64, u64)> {
         let offset = page % 16;
         if page / 16 != self.page / 16 || self.word >> 48 >> offset & 1 == 0 {
             return None;
         }
-        Some(PlainPair {
-            page,
-            frame: (self.word >> 16 & 0xff_ffff) << 4 | offset,
-            attributes: self.word & 0xfff,
-        })
+        Some((
+            (self.word >> 16 & 0xff_ffff) << 4 | offset,
+            self.word & 0xfff,
+        ))
     }
 
-    fn full_pair(self, page: u64) -> Option<PlainPair>
-        ensures { IfSome result (λ pair. pair.page ≡ page) }
-    {
+    fn full_parts(self, page: u64) -> Option<(u64, u64)> {
         if page != self.page || self.word == 0 {
             return None;
         }
-        Some(PlainPair {
-            page,
-            frame: self.word >> 12 & 0xfff_ffff,
-            attributes: self.word & 0xfff,
-        })
+        Some((self.word >> 12 & 0xfff_ffff, self.word & 0xfff))
     }
 }

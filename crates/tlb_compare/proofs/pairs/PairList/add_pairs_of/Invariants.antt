@@ -1,5 +1,5 @@
-use Rattle.std.proofs.Common.{◌≡◌}
+use Rattle.std.proofs.Common.{◌≤◌, vec_len}
 use Rattle.tlb_compare.proofs.pairs.PairList.add_pairs_of.Given as goal
 
 abbrev pub invariant-loop-page : goal.invariant-loop-page
-invariant-loop-page l = l.self.hand ≡ l.initial.self.hand
+invariant-loop-page l = vec_len l.initial.self.held ≤ vec_len l.self.held

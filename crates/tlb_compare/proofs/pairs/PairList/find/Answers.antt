@@ -1,9 +1,10 @@
-use Rattle.std.proofs.Common.{rules}
-use borrow.Author.Rules.{get_or_read}
+use Rattle.std.proofs.Common.{◌==◌, ◌∙◌, rules, tests}
+use Rattle.std.proofs.lemmas.Iterator.{YieldsList-from_slice}
+use Rattle.std.proofs.lemmas.Iterator.Search.{find_from_yields_List}
+use Rattle.tlb_compare.specs.declared.pairs.Held.{Held}
 use Rattle.tlb_compare.proofs.pairs.PairList.find.Goals as goal
 
-pub returns-then-held-page : goal.returns-then-held-page
-returns-then-held-page c = search (rules, get_or_read)
-
-pub loop-held-preserved : goal.loop-held-preserved
-loop-held-preserved c = search (rules, get_or_read)
+pub returns : goal.returns
+returns c =
+    let found = find_from_yields_List (λ (h : Held). h.pair.page == c.args.page) _ _ c.find.result c.find.ensures.ran (YieldsList-from_slice c.args.self.now.held.items cc) (λ x b q k. search (rules, tests)) in
+    c.copied.ensures ∙ found
