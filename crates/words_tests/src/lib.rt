@@ -9,6 +9,7 @@ mod tests {
     use std::test::Fail;
     use words::{Access, CompactWord, FullWord, Page, ReadFault, Translation, read_word};
 
+    // Forms as the exported reader takes them, by their numbers.
     const COMPACT: u64 = 1;
 
     const FULL: u64 = 2;
@@ -148,16 +149,14 @@ mod tests {
             attributes: 3,
         };
         assert!(rt; page.allows(Access::Write) && !page.allows(Access::Execute));
-        let Some(word) = CompactWord::of_page(first, page) else {
-            return Err(Fail::new("page 0x41 is properly placed on frame 0x1001"));
-        };
+        let word = CompactWord::of_page(first, page).ok_or(Fail::new(
+            "page 0x41 is properly placed on frame 0x1001",
+        ))?;
         assert_eq!(rt; word.bits, 0x0002_0000_0100_0003);
         assert!(rt; word.without(first).is_none());
         let both = word.with(last);
         assert_eq!(rt; both.bits, 0x8002_0000_0100_0003);
-        let Some(rest) = both.without(first) else {
-            return Err(Fail::new("page 0x4F is left"));
-        };
+        let rest = both.without(first).ok_or(Fail::new("page 0x4F is left"))?;
         assert_eq!(rt; rest.bits, 0x8000_0000_0100_0003);
         Ok(())
     }
