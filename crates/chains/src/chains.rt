@@ -125,6 +125,7 @@ impl Chains {
         let mut place = HEADS + block.bucket();
         let mut looked = 0;
         while let Some(node) = self.links[place] {
+            // how many were looked at is an answer, not an index
             looked += 1;
             if self.nodes[usize::from(node)].is_of(block) {
                 let found = Found { node, looked };

@@ -100,6 +100,7 @@ impl<R: LoadRule> Model for SlotModel<R> {
     }
 }
 
+// Written out again, though `TwoLevelTlb` makes the same calls: a model shares no code with what it is compared with.
 #[derive(Drop)]
 pub struct TwoLevelModel<M, N> {
     first: M,

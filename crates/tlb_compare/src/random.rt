@@ -1,4 +1,4 @@
-// Pseudo-random numbers, the same in every run.
+// Pseudo-random numbers, the same in every run; those of a library would draw other calls.
 ghost use Rattle.std.specs.Prelude.{◌≡◌, ◌<◌};
 
 #[derive(Drop)]

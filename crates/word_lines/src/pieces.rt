@@ -4,7 +4,8 @@ ghost use Rattle.std.specs.Iterator.{at_most, YieldsFirstRef};
 ghost use Rattle.std.specs.List.{prefix_len};
 ghost use Rattle.word_lines.specs.Pieces.{separates};
 
-// What ends a piece: a line feed ends a line, a blank a field.
+// What ends a piece: a line feed ends a line, a blank a field. Two names are plainer than a closure, which would be a type parameter of
+// every walk, with its laws in every contract.
 #[derive(Clone, Copy)]
 pub enum Separator {
     LineFeed,

@@ -26,7 +26,7 @@ impl Response {
     }
 }
 
-// The letter of an access that is allowed, and else a dash.
+// The letter of an access that is allowed, and else a dash: a `Display` of the access alone cannot know which.
 fn letter_of(translation: Translation, access: Access) -> &'static str
     ensures { result.now ≡ letter translation.attributes access }
 {

@@ -16,7 +16,8 @@ pub struct CompactWord {
 }
 
 impl CompactWord {
-    // The word with these bits; none where they are no compact word.
+    // The word with these bits; none where they are no compact word. A bit pattern is no number to convert, so no `TryFrom`, as with
+    // `f64::from_bits`.
     pub fn from_bits(bits: u64) -> Option<CompactWord>
         ensures { Made result (is_compact bits) (λ w. w.bits ≡ bits) }
     {

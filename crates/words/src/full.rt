@@ -22,7 +22,7 @@ impl FullWord {
         FullWord { bits: 0 }
     }
 
-    // The word with these bits; none where they are no full word.
+    // The word with these bits; none where they are no full word. No `TryFrom`, as for compact words.
     pub fn from_bits(bits: u64) -> Option<FullWord>
         ensures { Made result (is_full bits) (λ w. w.bits ≡ bits) }
     {

@@ -21,7 +21,7 @@ pub fn read_word(form: u64, word: u64, offset: u64) -> Result<Translation, ReadF
     word.read(offset).ok_or(ReadFault::NotMapped)
 }
 
-// frame * 4,096 + attributes, or 2^63 + the number of the fault.
+// frame * 4,096 + attributes, or 2^63 + the number of the fault. A `From` between two types of std is not ours to write.
 fn encoded(answer: Result<Translation, ReadFault>) -> u64
     ensures { result ≡ answer_number answer }
 {
