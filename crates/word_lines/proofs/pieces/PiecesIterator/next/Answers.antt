@@ -1,16 +1,11 @@
 use Rattle.std.proofs.Common.{◌≡◌, ◌<◌, not, [], length, take, drop, sym, ap, ◌∙◌, arith, length-drop, rules}
 use Rattle.std.proofs.lemmas.List.{nil_from_length, take_rest}
 use Rattle.std.proofs.lemmas.List.Sums.{prefix_len-le-length}
-use Rattle.std.proofs.lemmas.Bool.{eqb-true, eqb-false}
-use Rattle.word_lines.specs.Pieces.{separates, pieces}
+use Rattle.std.proofs.lemmas.Bool.{eqb-false}
+use Rattle.word_lines.specs.Pieces.{separates}
 use Rattle.word_lines.proofs.Cutting.{next_piece}
 use Rattle.word_lines.proofs.pieces.PiecesIterator.next.Goals as goal
 use Rattle.word_lines.proofs.pieces.PiecesIterator.next.Goals.{in-empty, in-len1-up}
-
-pub returns-then-is_empty : goal.returns-then-is_empty
-returns-then-is_empty c =
-    let none = ap (pieces c.args.self.now.separator) (nil_from_length c.args.self.now.rest.now (eqb-true _ 0 (sym c.if-is_empty.ensures))) in
-    record { steps = (none, none); goes = search rules }
 
 pub split_at-requires : goal.split_at-requires
 split_at-requires c = omega (arith, c.piece_len.ensures, prefix_len-le-length (λ b. not (separates c.args.self.now.separator b)) c.args.self.now.rest.now)
