@@ -1,4 +1,3 @@
 pub mod Cutting
 pub mod Finding
 pub mod Reading
-pub mod Following

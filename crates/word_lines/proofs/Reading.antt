@@ -1,22 +1,15 @@
 -- A numeral that is read from its first digit on.
-use Rattle.std.proofs.Common.{◌≡◌, ℕ, ◌+◌, ◌*◌, ◌^◌, ◌<◌, ◌≤◌, true, ◌&&◌, ◌||◌, eqb, ltb, List, [], ◌∷◌, length, get_or, drop, Some, None, Option, refl, ap, ◌∙◌, ⊎_elim, le-mul_of_pos_right, arith}
+use Rattle.std.proofs.Common.{◌≡◌, ℕ, ◌+◌, ◌*◌, ◌^◌, ◌<◌, ◌≤◌, ◌&&◌, ltb, List, [], ◌∷◌, length, get_or, drop, None, Option, ap, ◌∙◌, ⊎_elim, le-mul_of_pos_right, arith}
 use Rattle.std.specs.Bool.{then_some}
 use Rattle.std.specs.Str.Parse.{digits_value_after}
 use Rattle.std.specs.Char.{digit_value}
-use Rattle.std.proofs.lemmas.List.{at_drop_more, at_drop_all}
+use Rattle.std.proofs.lemmas.List.{at_drop_more}
 use Rattle.std.proofs.lemmas.Bool.{lt-ltb, le-ltb, and_right, cases_lt}
-use Rattle.word_lines.specs.Numerals.{are_digits, number_in, digits_of_word}
+use Rattle.word_lines.specs.Numerals.{are_digits}
 
 -- the number of digits that follow those of n
 abbrev pub onward : ℕ → ℕ → List ℕ → Option ℕ
 onward base n cs = then_some (are_digits base cs && ltb (digits_value_after base n cs) (2 ^ 64)) (digits_value_after base n cs)
-
-pub from_start : (base : ℕ) (cs : List ℕ) → 0 < length cs → onward base 0 cs ≡ number_in base cs
-from_start base [] h = absurd (omega arith)
-from_start base (c ∷ cs) h = refl
-
-at_end : (base n : ℕ) → n < 2 ^ 64 → onward base n [] ≡ Some n
-at_end base n h = rw (lt-ltb n (2 ^ 64) h)
 
 one_digit : (base n c : ℕ) (cs : List ℕ) → digit_value c < base → onward base n (c ∷ cs) ≡ onward base (n * base + digit_value c) cs
 one_digit base n c cs h = rw (lt-ltb (digit_value c) base h)
@@ -36,10 +29,10 @@ too_large base n cs h k =
 
 -- the same at the byte at place i
 module _ (base n i : ℕ) (cs : List ℕ) (h : i < length cs) where
-  pub one_more : digit_value (get_or cs i 0) < base → onward base n (drop i cs) ≡ onward base (n * base + digit_value (get_or cs i 0)) (drop (i + 1) cs)
+  one_more : digit_value (get_or cs i 0) < base → onward base n (drop i cs) ≡ onward base (n * base + digit_value (get_or cs i 0)) (drop (i + 1) cs)
   one_more d = at_drop_more (onward base n) cs i 0 h ∙ one_digit base n (get_or cs i 0) (drop (i + 1) cs) d
 
-  pub none_here : (digit_value (get_or cs i 0) < base → ⊥) → onward base n (drop i cs) ≡ None
+  none_here : (digit_value (get_or cs i 0) < base → ⊥) → onward base n (drop i cs) ≡ None
   none_here d = at_drop_more (onward base n) cs i 0 h ∙ no_digit base n (get_or cs i 0) (drop (i + 1) cs) d
 
   pub none_after : 1 ≤ base → 2 ^ 64 ≤ n * base + digit_value (get_or cs i 0) → onward base n (drop i cs) ≡ None
@@ -48,11 +41,3 @@ module _ (base n i : ℕ) (cs : List ℕ) (h : i < length cs) where
       (λ d. one_more d ∙ too_large base _ (drop (i + 1) cs) b k)
       (λ d. none_here (λ l. omega arith))
       (cases_lt (digit_value (get_or cs i 0)) base)
-
-pub none_left : (base n i : ℕ) (cs : List ℕ) → length cs ≤ i → n < 2 ^ 64 → onward base n (drop i cs) ≡ Some n
-none_left base n i cs h k = at_drop_all (onward base n) cs i h ∙ at_end base n k
-
-pub after_prefix : (cs : List ℕ) → 2 ≤ length cs → (eqb (get_or cs 0 0) 48 && (eqb (get_or cs 1 0) 120 || eqb (get_or cs 1 0) 88)) ≡ true → digits_of_word cs ≡ drop 2 cs
-after_prefix [] h e = absurd (omega arith)
-after_prefix (a ∷ []) h e = absurd (omega arith)
-after_prefix (a ∷ b ∷ cs) h e = rw e
