@@ -1,5 +1,5 @@
--- The numbers of the refusals.
-use Rattle.std.specs.Prelude.{ℕ}
+-- The numbers of the refusals, and what is written of them.
+use Rattle.std.specs.Prelude.{ℕ, List, codes}
 use Rattle.frames.specs.declared.fault.AllocateFault.{AllocateFault}
 use Rattle.frames.specs.declared.fault.AllocateFault.TheVariants.{AllOut}
 use Rattle.frames.specs.declared.fault.FreeFault.{FreeFault}
@@ -10,3 +10,9 @@ allocate_number AllOut = 4
 
 abbrev pub free_number : FreeFault → ℕ
 free_number NotOut = 12
+
+abbrev pub allocate_reason : AllocateFault → List ℕ
+allocate_reason AllOut = codes "every frame of the stock is out"
+
+abbrev pub free_reason : FreeFault → List ℕ
+free_reason NotOut = codes "the frame is not out"

@@ -1,22 +1,23 @@
 -- What the free list means.
-use Rattle.std.specs.Prelude.{◌≡◌, ℕ, ◌+◌, ◌-◌, ◌*◌, Bool, false, ◌&&◌, List, [], ◌∷◌, map, MatchResult, nat_le, nat_lt, slice_index_or}
+use Rattle.std.specs.Prelude.{◌≡◌, ℕ, ◌+◌, ◌-◌, ◌*◌, Bool, false, ◌&&◌, List, [], ◌∷◌, map, reverse, MatchResult, slice_index_or}
 use Rattle.frames.specs.declared.free_list.FreeListAllocator.{FreeListAllocator}
-use Rattle.frames.specs.Lists.{stacked, rising}
+use Rattle.frames.specs.Lists.{rising}
 use Rattle.frames.specs.Meaning.{FramesMeaning}
+use Rattle.frames.specs.Stock.{in_stock}
 
 -- the free frames, from the head on
 abbrev pub free_frames : FreeListAllocator → List ℕ
-free_frames s = map (λ i. s.first + i) (stacked s.list s.count)
+free_frames s = map (λ i. s.stock.first + i) (reverse s.list.items)
 
 abbrev pub list_stock : FreeListAllocator → ℕ → Bool
-list_stock s f = nat_le s.first f && nat_lt (f - s.first) 4096
+list_stock s = in_stock s.stock.first
 
 abbrev pub list_out : FreeListAllocator → ℕ → Bool
-list_out s f = list_stock s f && slice_index_or s.out (f - s.first) false
+list_out s f = list_stock s f && slice_index_or s.out (f - s.stock.first) false
 
 -- a new list rises from its lowest frame, 16 * g, and no frame is out
 pub record NewList (g : ℕ) (u : FreeListAllocator) : Type 0 where
-  pub first : u.first ≡ 16 * g
+  pub first : u.stock.first ≡ 16 * g
   pub free : free_frames u ≡ rising (16 * g) 4096
   pub none : (f : ℕ) → list_out u f ≡ false
 

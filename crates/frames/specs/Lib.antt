@@ -1,4 +1,5 @@
 pub mod Faults
 pub mod Meaning
+pub mod Stock
 pub mod Lists
 pub mod FreeList

@@ -1,15 +1,17 @@
 // A free list of 4,096 frames: the frame that came in last goes out first.
-ghost use Rattle.std.specs.Prelude.{◌≡◌, ℕ, ◌+◌, ◌≤◌};
-ghost use Rattle.frames.specs.Lists.{stacked, occurs, set_flags, due};
+ghost use Rattle.std.specs.Prelude.{◌≡◌, ℕ, ◌+◌, count_by};
+ghost use Rattle.arrayvec.specs.ArrayVec.{array_vec_len};
+ghost use Rattle.frames.specs.Lists.{occurs, due};
 
-// Frames are kept by their places, counted from the first frame. The head of the list is the last of the `count` elements.
+use crate::stock::Stock;
+use arrayvec::ArrayVec;
+
+// Frames are kept by their places. The head of the list is its last element.
 #[derive(Drop)]
 pub struct FreeListAllocator {
-    pub(crate) first: u32,
-    pub(crate) list: [u16; 4096],
-    pub(crate) count: usize,
+    pub(crate) stock: Stock,
+    pub(crate) list: ArrayVec<u16, 4096>,
     pub(crate) out: [bool; 4096],
-    ghost low: { first ≤ 1048560 },
-    ghost total: { count + set_flags out ≡ 4096 },
-    ghost once: { (i : ℕ) → occurs i (stacked list count) ≡ due out i },
+    ghost total: { array_vec_len list + count_by (λ flag. flag) out ≡ 4096 },
+    ghost once: { (i : ℕ) → occurs i list.items ≡ due out i },
 }

@@ -5,6 +5,9 @@ ghost use Rattle.std.proofs.Common.{rules};
 use crate::allocator::FrameAllocator;
 use crate::fault::{AllocateFault, FreeFault};
 use crate::free_list::FreeListAllocator;
+use crate::stock::{Place, Stock};
+use arrayvec::ArrayVec;
+use std::array;
 use words::Page;
 
 impl FreeListAllocator {
@@ -12,14 +15,9 @@ impl FreeListAllocator {
     pub fn new(group: u16) -> FreeListAllocator
         ensures { NewList group result }
     {
-        let mut list = [0u16; 4096];
-        for i in 0..4096usize {
-            list[i] = (4095 - i) as u16;
-        }
         FreeListAllocator {
-            first: u32::from(group) * 16,
-            list,
-            count: 4096,
+            stock: Stock::of_group(group),
+            list: ArrayVec::from(array::from_fn(|i| 4095 - i as u16)),
             out: [false; 4096],
         }
     }
@@ -34,27 +32,18 @@ impl FrameAllocator for FreeListAllocator {
 
     // The page does not matter.
     fn allocate(&mut self, _page: Page) -> Result<u32, AllocateFault> {
-        if self.count == 0 {
-            return Err(AllocateFault::AllOut);
-        }
-        let top = self.count - 1;
-        let place = self.list[top];
-        self.out[place as usize] = true;
-        self.count = top;
-        Ok(self.first + u32::from(place))
+        let number = self.list.pop().ok_or(AllocateFault::AllOut)?;
+        self.out[usize::from(number)] = true;
+        Ok(self.stock.frame(Place { number }))
     }
 
     fn free(&mut self, frame: u32) -> Result<(), FreeFault> {
-        if frame < self.first || frame - self.first >= 4096 {
+        let place = self.stock.place(frame).ok_or(FreeFault::NotOut)?;
+        if !self.out[usize::from(place.number)] {
             return Err(FreeFault::NotOut);
         }
-        let place = (frame - self.first) as u16;
-        if !self.out[place as usize] {
-            return Err(FreeFault::NotOut);
-        }
-        self.out[place as usize] = false;
-        self.list[self.count] = place;
-        self.count += 1;
+        self.out[usize::from(place.number)] = false;
+        self.list.push(place.number);
         Ok(())
     }
 }

@@ -5,8 +5,9 @@ mod allocator;
 mod fault;
 mod free_list;
 mod free_list_allocator;
-mod numbers;
+mod stock;
 
 pub use allocator::FrameAllocator;
 pub use fault::{AllocateFault, FreeFault};
 pub use free_list::FreeListAllocator;
+pub use stock::{Place, Stock};

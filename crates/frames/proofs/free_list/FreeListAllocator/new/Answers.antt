@@ -1,31 +1,21 @@
-use Rattle.std.proofs.Common.{◌≡◌, ℕ, ◌-◌, ◌*◌, ◌<◌, ◌≢◌, length, get_or, ap, ◌∙◌, arith, length-set, get_or-set_other, get_or-set_same, below_more}
-use Rattle.frames.specs.Lists.{rising}
-use Rattle.frames.proofs.Stacks.{no_flags, new_once, new_frames, new_in}
+use Rattle.std.proofs.Common.{◌+◌, map, reverse, ap, ◌∙◌, arith}
+use Rattle.frames.specs.Lists.{rising, occurs}
+use Rattle.frames.proofs.FreeFrames.{Falls, no_flags, new_once, new_frames, new_in}
 use Rattle.frames.proofs.free_list.FreeListAllocator.new.Goals as goal
-
-pub loop-i-preserved : goal.loop-i-preserved
-loop-i-preserved c =
-    let xs = c.loop-i.list in
-    let i = c.loop-i.i in
-    let long = c.loop-i.invariant.0 in (
-      simp length-set long,
-      below_more _ _
-          (λ k h. let ne : k ≢ i = omega arith in rw get_or-set_other (c.loop-i.invariant.1 k h))
-          (let lt : i < length xs = omega arith in rw get_or-set_same),
-    )
 
 pub invariant_of-result : goal.invariant_of-result
 invariant_of-result c =
+    let xs = c.from_fn.result in
+    let f : Falls xs = (c.from_fn.ensures.items.long, λ k h. let (p, q, a) = c.from_fn.ensures.items.at k 0 h in omega (arith, a)) in
     let flags = no_flags 4096 in
-    let falls : (k : ℕ) → k < 4096 → get_or c.loop-i.list k 0 ≡ 4095 - k = λ k h. c.loop-i.invariant.1 k (omega arith) in
-    record { low = omega arith; total = omega arith; once = new_once c.loop-i.list falls }
+    record { total = omega arith; once = λ i. ap (occurs i) c.from.ensures.0 ∙ new_once xs f i }
 
 pub returns : goal.returns
 returns c =
-    let falls : (k : ℕ) → k < 4096 → get_or c.loop-i.list k 0 ≡ 4095 - k = λ k h. c.loop-i.invariant.1 k (omega arith) in
-    let e : c.from.result * 16 ≡ 16 * c.args.group = omega (arith, c.from.ensures) in
+    let xs = c.from_fn.result in
+    let f : Falls xs = (c.from_fn.ensures.items.long, λ k h. let (p, q, a) = c.from_fn.ensures.items.at k 0 h in omega (arith, a)) in
     record {
-      first = e;
-      free = new_frames c.loop-i.list (c.from.result * 16) falls ∙ ap (λ x. rising x 4096) e;
-      none = new_in (c.from.result * 16);
+      first = c.of_group.ensures;
+      free = ap (λ ys. map (λ i. c.of_group.result.first + i) (reverse ys)) c.from.ensures.0 ∙ new_frames xs c.of_group.result.first f ∙ ap (λ b. rising b 4096) c.of_group.ensures;
+      none = new_in c.of_group.result.first;
     }

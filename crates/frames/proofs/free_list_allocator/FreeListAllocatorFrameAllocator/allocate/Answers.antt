@@ -1,54 +1,39 @@
-use Rattle.std.proofs.Common.{◌≡◌, ℕ, ◌+◌, ◌-◌, ◌<◌, true, false, cond, ◌&&◌, ltb, leb, [], ◌∷◌, map, get_or, sym, refl, ap, ◌∙◌, arith}
+use Rattle.std.proofs.Common.{◌≡◌, ℕ, length, true, false, cond, ◌&&◌, leb, ltb, ◌-◌, ◌+◌, [], ◌∷◌, ◌++◌, get_or, sym, ap, ◌∙◌, arith}
+use Rattle.std.proofs.lemmas.List.{length_push}
+use Rattle.std.proofs.lemmas.List.Sums.{sum_by-set}
 use Rattle.words.specs.Points.{at}
-use Rattle.frames.specs.declared.free_list.FreeListAllocator.{FreeListAllocator}
-use Rattle.frames.specs.Lists.{stacked, occurs, due}
-use Rattle.frames.proofs.Stacks.{top, no_list, none_in, head_in, popped, flag_set, flagged, flag_at, in_stock, flag_written}
+use Rattle.frames.specs.Lists.{occurs, due}
+use Rattle.frames.proofs.FreeFrames.{head_in, popped, last_popped, flagged, flag_at, in_stock, flag_written}
 use Rattle.frames.proofs.free_list_allocator.FreeListAllocatorFrameAllocator.allocate.Goals as goal
 
--- the list before, as its head and the rest
-due_before : (s : FreeListAllocator) → 0 < s.count → (i : ℕ) → occurs i (get_or s.list (s.count - 1) 0 ∷ stacked s.list (s.count - 1)) ≡ due s.out i
-due_before s h i = ap (occurs i) (sym (top s.list s.count h)) ∙ s.once i
-
-pub bounds-self-place : goal.bounds-self-place
-bounds-self-place c =
+pub bounds-self-from : goal.bounds-self-from
+bounds-self-from c =
     let s = c.args.self.now in
-    let h : 0 < s.count = omega (arith, c.if-self-eq0.false) in
-    (head_in s.out (get_or s.list (s.count - 1) 0) (stacked s.list (s.count - 1)) (due_before s h)).0
+    let e = last_popped s.list.items c.pop.new.self.items c.pop.result c.ok_or.result _ c.from.result c.pop.ensures.items c.ok_or.ensures.ok_part c.in_ok-number.was c.from.ensures in
+    (head_in s.out c.from.result c.pop.new.self.items (λ i. ap (occurs i) (sym e) ∙ s.once i)).0
 
-pub invariant_of-self : goal.invariant_of-self
-invariant_of-self c =
+pub invariant_of-self-2 : goal.invariant_of-self-2
+invariant_of-self-2 c =
     let s = c.args.self.now in
-    let x = get_or s.list (s.count - 1) 0 in
-    let h : 0 < s.count = omega (arith, c.if-self-eq0.false) in
-    let (l, f) = head_in s.out x (stacked s.list (s.count - 1)) (due_before s h) in
-    let flags = flag_set s.out x true (omega arith) in
+    let x = c.from.result in
+    let e = last_popped s.list.items c.pop.new.self.items c.pop.result c.ok_or.result _ x c.pop.ensures.items c.ok_or.ensures.ok_part c.in_ok-number.was c.from.ensures in
+    let once : (i : ℕ) → occurs i (c.pop.new.self.items ++ x ∷ []) ≡ due s.out i = λ i. ap (occurs i) (sym e) ∙ s.once i in
+    let (l, f) = head_in s.out x c.pop.new.self.items once in
+    let flags = sum_by-set (λ b. cond {A = ℕ} b 1 0) s.out x true false (omega arith) in
     let one : cond {A = ℕ} (get_or s.out x false) 1 0 ≡ 0 = ap (λ b. cond {A = ℕ} b 1 0) f in
+    let long = ap length e ∙ length_push c.pop.new.self.items x in
     let t = s.total in
-    record { low = s.low; total = omega arith; once = popped s.out x (stacked s.list (s.count - 1)) (omega arith) (due_before s h) }
+    record { total = omega arith; once = popped s.out x c.pop.new.self.items (omega arith) once }
 
-pub returns-then-self-eq0 : goal.returns-then-self-eq0
-returns-then-self-eq0 c =
+pub returns-clause-takes : goal.returns-clause-takes
+returns-clause-takes c =
     let s = c.args.self.now in
-    let empty : stacked s.list s.count ≡ [] = ap (stacked s.list) c.if-self-eq0.true ∙ no_list s.list in
-    record {
-      step = (ap (map (λ i. s.first + i)) empty, refl);
-      takes = (λ f h. none_in s.first s.out (λ i. sym (ap (occurs i) empty) ∙ s.once i) f h, refl);
-      stock = refl;
-    }
-
-pub returns : goal.returns
-returns c =
-    let s = c.args.self.now in
-    let x = get_or s.list (s.count - 1) 0 in
-    let h : 0 < s.count = omega (arith, c.if-self-eq0.false) in
-    let (l, f) = head_in s.out x (stacked s.list (s.count - 1)) (due_before s h) in
-    let e : c.from.result ≡ x = c.from.ensures in
-    record {
-      step = ap (map (λ i. s.first + i)) (top s.list s.count h) ∙ ap (λ y. (s.first + y) ∷ map (λ i. s.first + i) (stacked s.list (s.count - 1))) (sym e);
-      takes = (
-        ap (λ y. leb s.first (s.first + y) && ltb (s.first + y - s.first) 4096) e ∙ in_stock s.first x l,
-        ap (λ y. flagged s.first s.out (s.first + y)) e ∙ flag_at s.first x s.out l ∙ f,
-        flag_written s.first x s.out true l (omega arith) ∙ ap (λ y. at (flagged s.first s.out) (s.first + y) true) (sym e),
-      );
-      stock = refl;
-    }
+    let x = c.from.result in
+    let e = last_popped s.list.items c.pop.new.self.items c.pop.result c.ok_or.result _ x c.pop.ensures.items c.ok_or.ensures.ok_part c.in_ok-number.was c.from.ensures in
+    let (l, f) = head_in s.out x c.pop.new.self.items (λ i. ap (occurs i) (sym e) ∙ s.once i) in
+    let b = s.stock.first in
+    let g : c.frame.result ≡ b + x = c.frame.ensures ∙ ap (λ n. b + n) (sym c.from.ensures) in (
+      ap (λ y. leb b y && ltb (y - b) 4096) g ∙ in_stock b x l,
+      ap (flagged b s.out) g ∙ flag_at b x s.out l ∙ f,
+      flag_written b x s.out true l (omega arith) ∙ ap (λ y. at (flagged b s.out) y true) (sym g),
+    )
