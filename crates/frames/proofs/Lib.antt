@@ -1,1 +1,1 @@
-pub mod FreeFrames
+pub mod NewLists
