@@ -1,38 +1,161 @@
 -- An order of groups, as groups at places; how it is compacted.
-use Rattle.std.proofs.Common.{◌≡◌, ℕ, ◌+◌, ◌*◌, ◌<◌, ◌≤◌, true, false, ◌&&◌, ltb, length, get_or, set, sym, refl, ap, ◌∙◌, subst, arith}
-use Rattle.std.proofs.lemmas.Bool.{and_parts, and_right, eqb-true, le-ltb}
+use Rattle.std.proofs.Common.{◌≡◌, ℕ, zero, suc, ◌+◌, ◌<◌, ◌≤◌, Bool, true, false, ◌&&◌, ltb, List, [], ◌∷◌, ◌++◌, Option, None, Some, length, get_or, set, replicate, sym, refl, ap, ◌∙◌, ap₂, subst, ⊎_elim, arith}
+use mathlib.Core.Path.{fun_ext}
+use Rattle.std.specs.Option.{is_some, unwrap_or}
+use Rattle.std.proofs.lemmas.List.{get_or-set_same, get_or-set_other, get_or_past, get_or_push, get_or_append_left, length_push}
+use Rattle.std.proofs.lemmas.Bool.{cases_eq, cases_lt, and_parts, and_right, eqb-true, le-ltb, both_ways}
+use Rattle.arrayvec.specs.ArrayVec.{array_vec_len}
+use Rattle.words.specs.Points.{at}
 use Rattle.reservation.specs.declared.age_order.AgeOrder.{AgeOrder}
-use Rattle.reservation.specs.declared.bit_set.BitSet.{BitSet}
-use Rattle.reservation.specs.Ages.{member, before, waits, place_of, taken, Gap}
+use Rattle.reservation.specs.Ages.{place_in, member, before, waits, place_of, taken, Gap, put_last, taken_out, SameOrder}
 use Rattle.reservation.specs.Sets.{has}
-use Rattle.reservation.proofs.Places.{Placed, count, count_none, moved_gap, moved_count, passed_gap}
-use Rattle.reservation.proofs.WordSets.{in_words_below}
+use Rattle.reservation.proofs.Places.{Placed, order_of, waits_of, at_here, at_there, unchanged, retell, refit, refit_order, refit_waits, appended, appended_order, appended_waits, gone, gone_order, gone_waits, marked, marked_waits, moved, moved_order, moved_waits, count, count_none, moved_gap, moved_count, passed_gap}
 
-pub placed_in : (s : AgeOrder) → Placed (member s) (has s.waiting) s.places s.groups s.used
-placed_in s = record { placed = s.placed; waits = s.waits }
+-- what is at each place of a list
+abbrev pub item_at : List ℕ → ℕ → ℕ
+item_at xs p = get_or xs p 0
 
--- a set has only numbers that its words have bits for
-pub has_below : (n : ℕ) (s : BitSet n) (k : ℕ) → has s k ≡ true → k < 64 * n
-has_below n s k h = let w = s.wide in let l = in_words_below s.words k h in omega arith
+-- which groups have a place, and which
+abbrev pub there : List (Option ℕ) → ℕ → Bool
+there ps g = is_some (get_or ps g None)
+
+abbrev pub where_is : List (Option ℕ) → ℕ → ℕ
+where_is ps g = unwrap_or (get_or ps g None) 0
+
+pub some_is : (o : Option ℕ) → is_some o ≡ true → o ≡ Some (unwrap_or o 0)
+some_is None e = absurd (both_ways false refl e)
+some_is (Some x) e = refl
+
+pub placed_in : (s : AgeOrder) → Placed (member s) (has s.waiting) (place_of s) (item_at s.groups.items) (array_vec_len s.groups)
+placed_in s = record {
+  placed = λ g m. s.placed g (place_of s g) (some_is (place_in s g) m);
+  waits = λ p w. let e = s.waits p w in (ap is_some e, ap (λ o. unwrap_or o 0) e);
+}
+
+-- where no group has a place
+pub no_place : (n g : ℕ) → get_or {A = Option ℕ} (replicate n None) g None ≡ None
+no_place zero g = refl
+no_place (suc n) zero = refl
+no_place (suc n) (suc g) = no_place n g
+
+-- the ghost fields of an order from its groups at places
+module _ (ps : List (Option ℕ)) (W : ℕ → Bool) (xs : List ℕ) (n : ℕ) (S : Placed (there ps) W (where_is ps) (item_at xs) n) where
+  pub all_placed : (g p : ℕ) → get_or ps g None ≡ Some p → (p < n) × (item_at xs p ≡ g)
+  all_placed g p e = subst (λ q. (q < n) × (item_at xs q ≡ g)) (ap (λ o. unwrap_or o 0) e) (S.placed g (ap is_some e))
+
+  pub all_waits : (p : ℕ) → W p ≡ true → get_or ps (item_at xs p) None ≡ Some p
+  all_waits p w = let (m, f) = S.waits p w in some_is _ m ∙ ap Some f
+
+-- the place of one group is written
+pub written_at : {X : Type 0} (h : Option ℕ → X) (ps : List (Option ℕ)) (g : ℕ) (v : Option ℕ) → g < length ps → (λ k. h (get_or (set ps g v) k None)) ≡ at (λ k. h (get_or ps k None)) g (h v)
+written_at h ps g v l = fun_ext (λ k. ⊎_elim
+    (λ e. ap (λ j. h (get_or (set ps g v) j None)) e ∙ ap h (get_or-set_same ps g v None l) ∙ sym (at_here (λ j. h (get_or ps j None)) g (h v) k e))
+    (λ ne. ap h (get_or-set_other ps g k v None ne) ∙ sym (at_there (λ j. h (get_or ps j None)) g (h v) k ne))
+    (cases_eq k g))
+
+-- one group more at the end, and another group at a place
+pub pushed_at : (xs : List ℕ) (g : ℕ) → item_at (xs ++ g ∷ []) ≡ at (item_at xs) (length xs) g
+pushed_at xs g = fun_ext (λ p. ⊎_elim
+    (λ e. get_or_push xs g 0 p (sym e) ∙ sym (at_here (item_at xs) (length xs) g p e))
+    (λ ne. ⊎_elim
+    (λ l. get_or_append_left xs (g ∷ []) 0 p l)
+    (λ l. let long = length_push xs g in get_or_past (xs ++ g ∷ []) p 0 (omega arith) ∙ sym (get_or_past xs p 0 l))
+    (cases_lt p (length xs)) ∙ sym (at_there (item_at xs) (length xs) g p ne))
+    (cases_eq p (length xs)))
+
+pub set_at_place : (xs : List ℕ) (t g : ℕ) → t < length xs → item_at (set xs t g) ≡ at (item_at xs) t g
+set_at_place xs t g l = fun_ext (λ p. ⊎_elim
+    (λ e. ap (item_at (set xs t g)) e ∙ get_or-set_same xs t g 0 l ∙ sym (at_here (item_at xs) t g p e))
+    (λ ne. get_or-set_other xs t p g 0 ne ∙ sym (at_there (item_at xs) t g p ne))
+    (cases_eq p t))
 
 -- the group at a place that is taken
-pub at_place : (s : AgeOrder) (p : ℕ) → taken s p ≡ true → (member s (get_or s.groups p 0) ≡ true) × (place_of s (get_or s.groups p 0) ≡ p)
+pub at_place : (s : AgeOrder) (p : ℕ) → taken s p ≡ true → (member s (item_at s.groups.items p) ≡ true) × (place_of s (item_at s.groups.items p) ≡ p)
 at_place s p h = let (a, b) = and_parts _ _ h in (a, eqb-true _ p b)
+
+-- only a group that there is a place for is in an order
+pub there_below : (ps : List (Option ℕ)) (g : ℕ) → there ps g ≡ true → g < length ps
+there_below ps g h = ⊎_elim (λ l. l) (λ l. absurd (both_ways _ (ap is_some (get_or_past ps g None l)) h)) (cases_lt g (length ps))
+
+-- the group g joins, at a place of its own
+pub joined : (s : AgeOrder) (g : ℕ) (w : Bool) (ps : List (Option ℕ)) (W : ℕ → Bool) (xs : List ℕ) → member s g ≡ false → g < length s.places →
+    ps ≡ set s.places g (Some (array_vec_len s.groups)) → W ≡ at (has s.waiting) (array_vec_len s.groups) w → xs ≡ s.groups.items ++ g ∷ [] →
+    Placed (there ps) W (where_is ps) (item_at xs) (length xs) × (there ps ≡ at (member s) g true)
+    × (order_of (there ps) (where_is ps) ≡ put_last (before s) (member s) g) × (waits_of (there ps) W (where_is ps) ≡ at (waits s) g w)
+joined s g w ps W xs new l p q x =
+    let n = array_vec_len s.groups in
+    let M : there ps ≡ at (member s) g true = ap there p ∙ written_at is_some s.places g (Some n) l in
+    let F : where_is ps ≡ at (place_of s) g n = ap where_is p ∙ written_at (λ o. unwrap_or o 0) s.places g (Some n) l in
+    let G : item_at xs ≡ at (item_at s.groups.items) n g = ap item_at x ∙ pushed_at s.groups.items g in
+    let N : length xs ≡ n + 1 = ap length x ∙ length_push s.groups.items g in (
+      retell _ _ _ _ _ _ _ _ _ _ M q F G N (appended _ _ _ _ _ (placed_in s) g w new),
+      M,
+      ap₂ order_of M F ∙ appended_order _ _ _ _ _ (placed_in s) g w new,
+      ap₂ (λ m f. waits_of m W f) M F ∙ ap (λ v. waits_of (at (member s) g true) v (at (place_of s) g n)) q ∙ appended_waits _ _ _ _ _ (placed_in s) g w new,
+    )
+
+-- the group g, whose place is p, leaves
+pub left : (s : AgeOrder) (g p : ℕ) (ps : List (Option ℕ)) (W : ℕ → Bool) → place_in s g ≡ Some p → ps ≡ set s.places g None → W ≡ at (has s.waiting) p false →
+    Placed (there ps) W (where_is ps) (item_at s.groups.items) (array_vec_len s.groups) × (there ps ≡ at (member s) g false)
+    × (order_of (there ps) (where_is ps) ≡ taken_out (before s) g) × (waits_of (there ps) W (where_is ps) ≡ at (waits s) g false)
+left s g p ps W e r q =
+    let here : member s g ≡ true = ap is_some e in
+    let own : place_of s g ≡ p = ap (λ o. unwrap_or o 0) e in
+    let l = there_below s.places g here in
+    let M : there ps ≡ at (member s) g false = ap there r ∙ written_at is_some s.places g None l in
+    let F : where_is ps ≡ at (place_of s) g 0 = ap where_is r ∙ written_at (λ o. unwrap_or o 0) s.places g None l in
+    let V : W ≡ at (has s.waiting) (place_of s g) false = q ∙ ap (λ x. at (has s.waiting) x false) (sym own) in
+    let alike : (k : ℕ) → at (member s) g false k ≡ true → at (place_of s) g 0 k ≡ place_of s k = λ k m. ⊎_elim
+    (λ i. absurd (both_ways _ (at_here (member s) g false k i) m))
+    (λ ne. at_there (place_of s) g 0 k ne)
+    (cases_eq k g) in (
+      retell _ _ _ _ _ _ _ _ _ _ M V F refl refl (refit _ _ _ _ alike _ _ (gone _ _ _ _ _ (placed_in s) g here)),
+      M,
+      ap₂ order_of M F ∙ refit_order _ (has s.waiting) _ _ alike ∙ gone_order (member s) (place_of s) g,
+      ap₂ (λ m f. waits_of m W f) M F ∙ refit_waits _ W _ _ alike ∙ ap (λ v. waits_of (at (member s) g false) v (place_of s)) V ∙ gone_waits _ _ _ _ _ (placed_in s) g here,
+    )
+
+-- whether the group g waits is written at its place
+pub marked_at : (s : AgeOrder) (g p : ℕ) (w : Bool) (W : ℕ → Bool) → place_in s g ≡ Some p → W ≡ at (has s.waiting) p w →
+    Placed (member s) W (place_of s) (item_at s.groups.items) (array_vec_len s.groups) × (member s g ≡ true) × (waits_of (member s) W (place_of s) ≡ at (waits s) g w)
+marked_at s g p w W e q =
+    let here : member s g ≡ true = ap is_some e in
+    let V : W ≡ at (has s.waiting) (place_of s g) w = q ∙ ap (λ x. at (has s.waiting) x w) (sym (ap (λ o. unwrap_or o 0) e)) in (
+      retell _ _ _ _ _ _ _ _ _ _ refl V refl refl refl (marked _ _ _ _ _ (placed_in s) g here w),
+      here,
+      ap (λ v. waits_of (member s) v (place_of s)) V ∙ marked_waits _ _ _ _ _ (placed_in s) g here w,
+    )
+
+-- the group at the place p moves down to the place t
+pub moved_down : (s : AgeOrder) (p t : ℕ) (ps : List (Option ℕ)) (W : ℕ → Bool) (xs : List ℕ) → taken s p ≡ true → t ≤ p → Gap s t p → t < length s.groups.items →
+    ps ≡ set s.places (item_at s.groups.items p) (Some t) → W ≡ at (at (has s.waiting) p false) t (has s.waiting p) → xs ≡ set s.groups.items t (item_at s.groups.items p) →
+    Placed (there ps) W (where_is ps) (item_at xs) (array_vec_len s.groups) × (there ps ≡ member s)
+    × (order_of (there ps) (where_is ps) ≡ before s) × (waits_of (there ps) W (where_is ps) ≡ waits s)
+moved_down s p t ps W xs here down gap low r q x =
+    let g = item_at s.groups.items p in
+    let (m, e) = at_place s p here in
+    let l = there_below s.places g m in
+    let M : there ps ≡ member s = ap there r ∙ written_at is_some s.places g (Some t) l ∙ sym (unchanged (member s) g true m) in
+    let F : where_is ps ≡ at (place_of s) g t = ap where_is r ∙ written_at (λ o. unwrap_or o 0) s.places g (Some t) l in
+    let G : item_at xs ≡ at (item_at s.groups.items) t g = ap item_at x ∙ set_at_place s.groups.items t g low in (
+      retell _ _ _ _ _ _ _ _ _ _ M q F G refl (moved _ _ _ _ _ (placed_in s) g p t m e down gap),
+      M,
+      ap₂ order_of M F ∙ moved_order _ _ _ _ _ (placed_in s) g p t m e down gap,
+      ap₂ (λ f h. waits_of f W h) M F ∙ ap (λ v. waits_of (member s) v (at (place_of s) g t)) q ∙ moved_waits _ _ _ _ _ (placed_in s) g p t m e down gap,
+    )
 
 -- the order a while it is compacted: s is what it has become, its groups at places below p have moved down to those below t
 pub record Compacting (a s : AgeOrder) (t p : ℕ) : Type 0 where
-  pub within : s.members ≡ a.members
-  pub order : before s ≡ before a
-  pub waiting : waits s ≡ waits a
+  pub same : SameOrder a s
+  pub long : array_vec_len s.groups ≡ array_vec_len a.groups
   pub low : t ≤ p
   pub gap : Gap s t p
   pub total : t ≡ count (λ g. member s g && ltb (place_of s g) t) 256
 
 pub compacting : (a : AgeOrder) → Compacting a a 0 0
 compacting a = record {
-  within = refl;
-  order = refl;
-  waiting = refl;
+  same = record { within = refl; order = refl; waiting = refl };
+  long = refl;
   low = omega arith;
   gap = λ g m l. l;
   total = sym (count_none _ 256 (λ k. and_right (member a k) _ (le-ltb _ 0 (omega arith))));
@@ -40,33 +163,32 @@ compacting a = record {
 
 pub passed : (a s : AgeOrder) (t p : ℕ) → Compacting a s t p → taken s p ≡ false → Compacting a s t (p + 1)
 passed a s t p k free = record {
-  within = k.within;
-  order = k.order;
-  waiting = k.waiting;
+  same = k.same;
+  long = k.long;
   low = let l = k.low in omega arith;
-  gap = passed_gap (member s) s.places s.groups s.used t p s.placed free k.gap;
+  gap = passed_gap (member s) (place_of s) (item_at s.groups.items) (array_vec_len s.groups) t p (placed_in s).placed free k.gap;
   total = k.total;
 }
 
-pub moved_one : (a s u : AgeOrder) (t p : ℕ) → Compacting a s t p → taken s p ≡ true → p < 512 → length s.places ≡ 256 → length s.groups ≡ 512 →
-    u.members ≡ s.members → before u ≡ before s → waits u ≡ waits s → u.places ≡ set s.places (get_or s.groups p 0) t → Compacting a u (t + 1) (p + 1)
-moved_one a s u t p k here lp long wide ms os ws ps =
-    let g = get_or s.groups p 0 in
+pub moved_one : (a s u : AgeOrder) (t p : ℕ) → Compacting a s t p → taken s p ≡ true → length s.places ≡ 256 →
+    SameOrder s u → array_vec_len u.groups ≡ array_vec_len s.groups → u.places ≡ set s.places (item_at s.groups.items p) (Some t) → Compacting a u (t + 1) (p + 1)
+moved_one a s u t p k here wide same long ps =
+    let g = item_at s.groups.items p in
     let (m, e) = at_place s p here in
-    let b = has_below 4 s.members g m in
+    let b = there_below s.places g m in
     let l = k.low in
+    let F : place_of u ≡ at (place_of s) g t = ap where_is ps ∙ written_at (λ o. unwrap_or o 0) s.places g (Some t) b in
     record {
-      within = ms ∙ k.within;
-      order = os ∙ k.order;
-      waiting = ws ∙ k.waiting;
+      same = record { within = same.within ∙ k.same.within; order = same.order ∙ k.same.order; waiting = same.waiting ∙ k.same.waiting };
+      long = long ∙ k.long;
       low = omega arith;
-      gap = λ h y. subst (λ xs. t + 1 ≤ get_or xs h 0 → p + 1 ≤ get_or xs h 0) (sym ps)
-          (moved_gap (member s) (has s.waiting) s.places s.groups s.used (placed_in s) g p t m e l k.gap (omega arith) (omega arith) h (sym (ap (λ x. has x h) ms) ∙ y));
+      gap = λ h y. subst (λ f. t + 1 ≤ f h → p + 1 ≤ f h) (sym F)
+          (moved_gap _ _ _ _ _ (placed_in s) g p t m e l k.gap h (sym (ap (λ f. f h) same.within) ∙ y));
       total =
-          let c = moved_count (member s) (has s.waiting) s.places s.groups s.used (placed_in s) g p t m e l k.gap (omega arith) (omega arith) 256 (omega arith) in
+          let c = moved_count _ _ _ _ _ (placed_in s) g p t m e l k.gap 256 (omega arith) in
           let d = k.total in
-          let f : count (λ h. member u h && ltb (place_of u h) (t + 1)) 256 ≡ count (λ h. member s h && ltb (get_or (set s.places g t) h 0) (t + 1)) 256 =
-          ap (λ x. count (λ h. has x h && ltb (place_of u h) (t + 1)) 256) ms ∙ ap (λ xs. count (λ h. member s h && ltb (get_or xs h 0) (t + 1)) 256) ps in
+          let f : count (λ h. member u h && ltb (place_of u h) (t + 1)) 256 ≡ count (λ h. member s h && ltb (at (place_of s) g t h) (t + 1)) 256 =
+          ap₂ (λ x y. count (λ h. x h && ltb (y h) (t + 1)) 256) same.within F in
           omega arith;
     }
 

@@ -1,8 +1,8 @@
 -- The groups of a reservation allocator: new ones, what the search for a block's group has found, and when nothing is in.
-use Rattle.std.proofs.Common.{◌≡◌, ℕ, ◌+◌, ◌-◌, ◌/◌, ◌%◌, ◌^◌, ◌<◌, ◌≤◌, true, false, ◌&&◌, ltb, leb, get_or, replicate, sym, ap, ◌∙◌, subst, ⊎_elim, arith}
+use Rattle.std.proofs.Common.{◌≡◌, ℕ, Bool, Option, MatchOption, ◌-◌, ◌/◌, ◌%◌, ◌^◌, ◌<◌, ◌≤◌, true, false, ◌&&◌, ltb, leb, get_or, replicate, sym, ap, ◌∙◌, subst, ⊎_elim, arith}
 use native.Mathlib.Nat.{zero-div}
 use Rattle.std.proofs.lemmas.List.{get_or_default, get_or_past, get_or-replicate, length-replicate}
-use Rattle.std.proofs.lemmas.Bool.{cases_lt, cases_eq, eq-eqb, eqb-true, not-false, and_from, and_left, and_right, and_parts, ltb-true, cases_Bool}
+use Rattle.std.proofs.lemmas.Bool.{cases_lt, eq-eqb, eqb-true, not-false, and_from, and_left, and_right, and_parts, ltb-true, cases_Bool}
 use Rattle.words.specs.Layout.{bit, bucket_of}
 use Rattle.words.proofs.Flip.{complement_bit, no_bit}
 use Rattle.reservation.specs.declared.group.Group.{Group}
@@ -10,34 +10,25 @@ use Rattle.reservation.specs.declared.group.Usage.TheVariants.{Open, Broken}
 use Rattle.reservation.specs.declared.reservation.ReservationAllocator.{ReservationAllocator}
 use Rattle.reservation.specs.Groups.{block_use, nth_group}
 use Rattle.reservation.specs.Index.{in_bucket}
-use Rattle.reservation.specs.Reservation.{group_of, group_stock, group_out, NoneIn, OnlyFor}
-use Rattle.reservation.specs.Sets.{FirstFrom, NoneFrom}
-use Rattle.reservation.proofs.Usages.{both_for, not_listed}
+use Rattle.reservation.specs.Reservation.{group_of, group_stock, group_out, NoGroup, NoneIn, OnlyFor}
+use Rattle.reservation.proofs.Members.{Tells}
+use Rattle.reservation.proofs.Usages.{both_for, not_listed, cases_map}
 
 -- a group that is read
 pub group_read : (s : ReservationAllocator) (g : ℕ) (d : Group) → g < 256 → get_or s.groups g d ≡ group_of s g
 group_read s g d l = let e = s.all in get_or_default s.groups g d _ (omega arith)
 
-pub only_for : (s : ReservationAllocator) (b g : ℕ) (d : Group) → g < 256 → true ≡ block_use b (get_or s.groups g d).usage → OnlyFor s b g
-only_for s b g d l e =
-    let here : block_use b (group_of s g).usage ≡ true = sym (e ∙ ap (λ x. block_use b x.usage) (group_read s g d l)) in
-    record { here = here; only = λ h x. s.single h g (both_for (group_of s h).usage (group_of s g).usage b x here) }
-
--- the groups below a number are not reserved for the block
-abbrev pub NoneBelow : ReservationAllocator → ℕ → ℕ → Type 0
-NoneBelow s b a = (g : ℕ) → g < a → block_use b (group_of s g).usage ≡ false
-
-pub none_below : (s : ReservationAllocator) (b a g : ℕ) (d : Group) → NoneBelow s b a → g < 256 → FirstFrom (in_bucket s.index (bucket_of b)) a g → false ≡ block_use b (get_or s.groups g d).usage → NoneBelow s b (g + 1)
-none_below s b a g d none l f e k m = ⊎_elim
-    (none k)
-    (λ x. ⊎_elim
-    (λ i. ap (λ j. block_use b (group_of s j).usage) i ∙ ap (λ y. block_use b y.usage) (sym (group_read s g d l)) ∙ sym e)
-    (λ i. not_listed (group_of s k).usage b (sym (s.listed (bucket_of b) k) ∙ f.before k x (omega arith)))
-    (cases_eq k g))
-    (cases_lt k a)
-
-pub none_at_all : (s : ReservationAllocator) (b a : ℕ) → NoneBelow s b a → NoneFrom (in_bucket s.index (bucket_of b)) a → (g : ℕ) → block_use b (group_of s g).usage ≡ false
-none_at_all s b a none from g = ⊎_elim (none g) (λ x. not_listed (group_of s g).usage b (sym (s.listed (bucket_of b) g) ∙ from g x)) (cases_lt g a)
+-- what the search among the groups of the block's bucket has found
+pub searched : (s : ReservationAllocator) (b : ℕ) (f : ℕ → Bool) (o : Option ℕ) → f ≡ in_bucket s.index (bucket_of b) → Tells f (λ g. block_use b (group_of s g).usage) 0 256 o → MatchOption o (NoGroup s b) (λ g. OnlyFor s b g)
+searched s b f o e h = cases_map o _ _ _ _ h
+    (λ none g. ⊎_elim
+    (λ l. ⊎_elim
+    (λ m. none g (omega arith) l m)
+    (λ m. not_listed (group_of s g).usage b (sym (s.listed (bucket_of b) g) ∙ ap (λ x. x g) (sym e) ∙ m))
+    (cases_Bool (f g)))
+    (λ l. let long = s.all in ap (λ x. block_use b x.usage) (get_or_past s.groups g _ (omega arith)))
+    (cases_lt g 256))
+    (λ g (l, here). record { here = here; only = λ h x. s.single h g (both_for (group_of s h).usage (group_of s g).usage b x here) })
 
 -- where no group has a frame in, every frame of the stock is out
 pub full_bit : (k : ℕ) → k < 16 → bit 65535 k ≡ true
@@ -45,8 +36,8 @@ full_bit k l = eq-eqb _ 1 (let e = complement_bit 16 0 k (omega arith) l in let 
 
 pub none_left : (s : ReservationAllocator) → NoneIn s → (f : ℕ) → group_stock s f ≡ true → group_out s f ≡ true
 none_left s none f t =
-    let e = eqb-true _ 65535 (not-false _ (none ((f - s.first) / 16))) in
-    and_from _ _ t (ap (λ w. bit w ((f - s.first) % 16)) e ∙ full_bit ((f - s.first) % 16) (omega arith))
+    let e = eqb-true _ 65535 (not-false _ (none ((f - s.stock.first) / 16))) in
+    and_from _ _ t (ap (λ w. bit w ((f - s.stock.first) % 16)) e ∙ full_bit ((f - s.stock.first) % 16) (omega arith))
 
 -- new groups
 abbrev pub open_group : Group

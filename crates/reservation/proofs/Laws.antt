@@ -24,9 +24,9 @@ own_offset s p BreaksOldest g k r e = absurd (both_ways false refl e)
 
 pub kept_at_offset : KeptAtOffset
 kept_at_offset s u p f c chosen taken own =
-    let e = own_offset s p c.step c.group c.offset.number chosen.rule own in
+    let e = own_offset s p c.step c.spot.group c.spot.offset.number chosen.rule own in
     let d = taken.frame in
-    let w = s.whole in
+    let w = s.stock.whole in
     omega arith
 
 -- a page that has an open group to take cannot be unplaced
@@ -39,12 +39,12 @@ reserving s p g BreaksOldest h k o none r = absurd (both_ways _ (r.0.reserves no
 
 pub open_group_gives_offset : OpenGroupGivesOffset
 open_group_gives_offset s u p g (Ok f) o none (c, chosen, taken) =
-    let t = reserving s p g c.step c.group c.offset.number o none chosen.rule in
-    let e : (f - s.first) / 16 ≡ c.group = ap (λ x. (x - s.first) / 16) taken.frame ∙ frame_group s c.group c.offset.number chosen.within.0 in (
+    let t = reserving s p g c.step c.spot.group c.spot.offset.number o none chosen.rule in
+    let e : (f - s.stock.first) / 16 ≡ c.spot.group = ap (λ x. (x - s.stock.first) / 16) taken.frame ∙ frame_group s c.spot.group c.spot.offset.number chosen.within.0 in (
       f,
       refl,
       kept_at_offset s u p f c chosen taken (ap own_group t),
-      ap (λ x. block_use (block_of p) (group_of u x).usage) e ∙ subst (λ x. UsedAs p x (group_of u c.group).usage) t taken.usage,
+      ap (λ x. block_use (block_of p) (group_of u x).usage) e ∙ subst (λ x. UsedAs p x (group_of u c.spot.group).usage) t taken.usage,
     )
 open_group_gives_offset s u p g (Err e) o none (all, same) = absurd (
     let z = eqb-true (group_of s g).out 0 (sym (s.used g) ∙ o) in
@@ -138,13 +138,13 @@ own_last BreaksOldest a b = both_ways false refl a
 pub determined : Determined
 determined s p c d x y = ⊎_elim
     (λ a. ⊎_elim
-    (λ b. let (e, g, k) = own_once s p c.step d.step c.group d.group c.offset.number d.offset.number a b x.rule y.rule in
+    (λ b. let (e, g, k) = own_once s p c.step d.step c.spot.group d.spot.group c.spot.offset.number d.spot.offset.number a b x.rule y.rule in
     record { step = e; frame = λ o. (g, k); oldest = λ o. absurd (own_last c.step a o) })
-    (λ b. absurd (not_unplaced s p c.step c.group c.offset.number a (x.rule, x.within) (unplaced s p d.step d.group d.offset.number b y.rule)))
+    (λ b. absurd (not_unplaced s p c.step c.spot.group c.spot.offset.number a (x.rule, x.within) (unplaced s p d.step d.spot.group d.spot.offset.number b y.rule)))
     (cases_Bool (own_group d.step)))
     (λ a. ⊎_elim
-    (λ b. absurd (not_unplaced s p d.step d.group d.offset.number b (y.rule, y.within) (unplaced s p c.step c.group c.offset.number a x.rule)))
-    (λ b. let (e, g) = any_once s p c.step d.step c.group d.group c.offset.number d.offset.number a b (x.rule, x.within) (y.rule, y.within) in
+    (λ b. absurd (not_unplaced s p d.step d.spot.group d.spot.offset.number b (y.rule, y.within) (unplaced s p c.step c.spot.group c.spot.offset.number a x.rule)))
+    (λ b. let (e, g) = any_once s p c.step d.step c.spot.group d.spot.group c.spot.offset.number d.spot.offset.number a b (x.rule, x.within) (y.rule, y.within) in
     record { step = e; frame = λ o. absurd (both_ways _ a o); oldest = g })
     (cases_Bool (own_group d.step)))
     (cases_Bool (own_group c.step))

@@ -6,3 +6,4 @@ pub mod Usages
 pub mod Grouped
 pub mod Stored
 pub mod Laws
+pub mod Members

@@ -1,9 +1,11 @@
 -- A group is written: what is kept of the groups beside them, and which frames are out.
-use Rattle.std.proofs.Common.{◌≡◌, ℕ, ◌-◌, ◌/◌, ◌%◌, ◌<◌, Bool, true, false, ◌&&◌, eqb, ltb, leb, ◌≢◌, List, length, set, MatchBool, sym, refl, ap, ◌∙◌, subst, ap₂, ⊎_elim, arith}
+use Rattle.std.proofs.Common.{◌≡◌, ℕ, ◌-◌, ◌/◌, ◌%◌, ◌<◌, Bool, true, false, ◌&&◌, eqb, ltb, leb, ◌≢◌, List, length, set, MatchBool, Some, None, sym, refl, ap, ◌∙◌, subst, ap₂, ⊎_elim, arith}
 use mathlib.Core.Path.{fun_ext}
 use Rattle.std.proofs.lemmas.List.{get_or-set_same, get_or-set_other}
 use Rattle.std.proofs.lemmas.Bool.{cases_eq, cases_Bool, both_ways, and_from, and_parts, and_left, and_right, ne_eqb, not_from_false, le-leb, lt-ltb, leb-true}
+use Rattle.std.specs.Bool.{then_some}
 use Rattle.words.specs.Layout.{bit, block_of}
+use Rattle.frames.specs.Stock.{in_stock}
 use Rattle.words.specs.Points.{at}
 use Rattle.reservation.specs.declared.age_order.AgeOrder.{AgeOrder}
 use Rattle.reservation.specs.declared.group.Choice.{Choice}
@@ -12,8 +14,8 @@ use Rattle.reservation.specs.declared.group.Step.{Step}
 use Rattle.reservation.specs.declared.group.Step.TheVariants.{Kept, Reserves, Spare, Breaks, BreaksOldest}
 use Rattle.reservation.specs.declared.group.Usage.{Usage}
 use Rattle.reservation.specs.declared.reservation.ReservationAllocator.{ReservationAllocator}
-use Rattle.reservation.specs.Ages.{member, before, put_last, taken_out, Updated}
-use Rattle.reservation.specs.Groups.{nth_group, open_use, reserved_use, same_block, is_open, is_reserved, has_in, OutAt, Returned}
+use Rattle.reservation.specs.Ages.{member, before, waits, put_last, taken_out, Joins, Stays, Updated}
+use Rattle.reservation.specs.Groups.{nth_group, open_use, reserved_use, same_block, is_open, is_reserved, has_in, waits_in, turn_of, OutAt, Returned}
 use Rattle.reservation.specs.Reservation.{group_of, older, frame_at, group_stock, group_out, Rule, UsedAs, OrderAfter, OnlyGroup, Chosen, Taken, CameIn}
 use Rattle.reservation.proofs.Places.{at_here, at_there, at_each, and_true}
 use Rattle.reservation.proofs.Usages.{both_for, same_for, same_sym, broken_alone, block_reserved, broken_only, open_only, open_alone}
@@ -40,10 +42,6 @@ kept_single G n x single alone g h =
     (λ g ng. at_each (λ k v. same_block (G g).usage v.usage ≡ true → g ≡ k) G n x (λ e. alone g (same_sym (G g).usage x.usage e)) (λ k nk e. single g k e) h)
     g
 
--- an order is updated by what the group is
-pub updated_by : (a b : AgeOrder) (n : ℕ) (s s' w w' : Bool) → s ≡ s' → w ≡ w' → Updated a n s w b → Updated a n s' w' b
-updated_by a b n s s' w w' e f u = subst (λ x. Updated a n x w' b) e (subst (λ x. Updated a n s x b) f u)
-
 -- a group that is written by a step is not open, and no other is reserved for its block
 pub step_not_open : (p : ℕ) (t : Step) (u : Usage) → UsedAs p t u → open_use u ≡ false
 step_not_open p Kept u e = (block_reserved u (block_of p) e).1
@@ -59,20 +57,49 @@ step_single s p Spare g k u r f h x = absurd (broken_alone u (group_of s h).usag
 step_single s p Breaks g k u r f h x = absurd (broken_alone u (group_of s h).usage f x)
 step_single s p BreaksOldest g k u r f h x = absurd (broken_alone u (group_of s h).usage f x)
 
+-- whether a group has a turn
+pub turn_some : (x : Group) → is_reserved x ≡ true → turn_of x ≡ Some (has_in x)
+turn_some x e = ap (λ b. then_some b (has_in x)) e
+
+pub turn_none : (x : Group) → is_reserved x ≡ false → turn_of x ≡ None
+turn_none x e = ap (λ b. then_some b (has_in x)) e
+
 -- the order of reservation after a step
-joins : (a b : AgeOrder) (n : ℕ) (s w : Bool) → Updated a n s w b → s ≡ true → member a n ≡ false → before b ≡ put_last (before a) (member a) n
-joins a b n s w u e m =
-    subst (λ x. MatchBool x (before b ≡ before a) (before b ≡ put_last (before a) (member a) n)) m
-    (subst (λ x. MatchBool x (MatchBool (member a n) (before b ≡ before a) (before b ≡ put_last (before a) (member a) n)) (before b ≡ taken_out (before a) n)) e u.order)
+joins : (a b : AgeOrder) (n : ℕ) (x : Group) → Updated a n (turn_of x) b → is_reserved x ≡ true → member a n ≡ false → before b ≡ put_last (before a) (member a) n
+joins a b n x u e m =
+    let v = subst (λ o. Updated a n o b) (turn_some x e) u in
+    (subst (λ y. MatchBool y (Stays a n (has_in x) b) (Joins a n (has_in x) b)) m v).order
 
-stays : (a b : AgeOrder) (n : ℕ) (s w : Bool) → Updated a n s w b → s ≡ true → member a n ≡ true → before b ≡ before a
-stays a b n s w u e m =
-    subst (λ x. MatchBool x (before b ≡ before a) (before b ≡ put_last (before a) (member a) n)) m
-    (subst (λ x. MatchBool x (MatchBool (member a n) (before b ≡ before a) (before b ≡ put_last (before a) (member a) n)) (before b ≡ taken_out (before a) n)) e u.order)
+stays : (a b : AgeOrder) (n : ℕ) (x : Group) → Updated a n (turn_of x) b → is_reserved x ≡ true → member a n ≡ true → before b ≡ before a
+stays a b n x u e m =
+    let v = subst (λ o. Updated a n o b) (turn_some x e) u in
+    (subst (λ y. MatchBool y (Stays a n (has_in x) b) (Joins a n (has_in x) b)) m v).order
 
-pub leaves : (a b : AgeOrder) (n : ℕ) (s w : Bool) → Updated a n s w b → s ≡ false → before b ≡ taken_out (before a) n
-leaves a b n s w u e =
-    subst (λ x. MatchBool x (MatchBool (member a n) (before b ≡ before a) (before b ≡ put_last (before a) (member a) n)) (before b ≡ taken_out (before a) n)) e u.order
+pub leaves : (a b : AgeOrder) (n : ℕ) (x : Group) → Updated a n (turn_of x) b → is_reserved x ≡ false → before b ≡ taken_out (before a) n
+leaves a b n x u e = (subst (λ o. Updated a n o b) (turn_none x e) u).order
+
+-- which groups are in the order after it, and which wait
+pub within_after : (a b : AgeOrder) (n : ℕ) (x : Group) → Updated a n (turn_of x) b → member b ≡ at (member a) n (is_reserved x)
+within_after a b n x u = by_turn (is_reserved x) (has_in x) u
+  where
+    by_member : (w m : Bool) → MatchBool m (Stays a n w b) (Joins a n w b) → member b ≡ at (member a) n true
+    by_member w true u = u.within
+    by_member w false u = u.within
+
+    by_turn : (r w : Bool) → Updated a n (then_some r w) b → member b ≡ at (member a) n r
+    by_turn true w u = by_member w (member a n) u
+    by_turn false w u = u.within
+
+pub waiting_after : (a b : AgeOrder) (n : ℕ) (x : Group) → Updated a n (turn_of x) b → waits b ≡ at (waits a) n (waits_in x)
+waiting_after a b n x u = by_turn (is_reserved x) (has_in x) u
+  where
+    by_member : (w m : Bool) → MatchBool m (Stays a n w b) (Joins a n w b) → waits b ≡ at (waits a) n w
+    by_member w true u = u.waiting
+    by_member w false u = u.waiting
+
+    by_turn : (r w : Bool) → Updated a n (then_some r w) b → waits b ≡ at (waits a) n (r && w)
+    by_turn true w u = by_member w (member a n) u
+    by_turn false w u = u.waiting
 
 -- a group that is not in the order can be taken out of it
 absent : (a : AgeOrder) (n : ℕ) → member a n ≡ false → taken_out (before a) n ≡ before a
@@ -93,37 +120,37 @@ absent a n m = fun_ext (λ g. fun_ext (λ h. each g h))
         (cases_eq h n))
         (cases_eq g n)
 
-pub gone_unless : (a b : AgeOrder) (n : ℕ) (s w : Bool) → Updated a n s w b → s ≡ false → member a n ≡ false → before b ≡ before a
-gone_unless a b n s w u e m = leaves a b n s w u e ∙ absent a n m
+pub gone_unless : (a b : AgeOrder) (n : ℕ) (x : Group) → Updated a n (turn_of x) b → is_reserved x ≡ false → member a n ≡ false → before b ≡ before a
+gone_unless a b n x u e m = leaves a b n x u e ∙ absent a n m
 
-pub still : (a b : AgeOrder) (n : ℕ) (s w : Bool) → Updated a n s w b → s ≡ member a n → before b ≡ before a
-still a b n s w u e = ⊎_elim
-    (λ t. stays a b n s w u (e ∙ t) t)
-    (λ f. gone_unless a b n s w u (e ∙ f) f)
+pub still : (a b : AgeOrder) (n : ℕ) (x : Group) → Updated a n (turn_of x) b → is_reserved x ≡ member a n → before b ≡ before a
+still a b n x u e = ⊎_elim
+    (λ t. stays a b n x u (e ∙ t) t)
+    (λ f. gone_unless a b n x u (e ∙ f) f)
     (cases_Bool (member a n))
 
-pub order_after : (s u : ReservationAllocator) (p : ℕ) (t : Step) (g k : ℕ) (x : Group) → Rule s p t g k → UsedAs p t x.usage → Updated s.order g (is_reserved x) (has_in x) u.order → OrderAfter s t g u
-order_after s u p Kept g k x (r, e) f o = stays s.order u.order g _ _ o (block_reserved x.usage (block_of p) f).0 (s.ordered g ∙ (block_reserved (group_of s g).usage (block_of p) r).0)
+pub order_after : (s u : ReservationAllocator) (p : ℕ) (t : Step) (g k : ℕ) (x : Group) → Rule s p t g k → UsedAs p t x.usage → Updated s.order g (turn_of x) u.order → OrderAfter s t g u
+order_after s u p Kept g k x (r, e) f o = stays s.order u.order g x o (block_reserved x.usage (block_of p) f).0 (s.ordered g ∙ (block_reserved (group_of s g).usage (block_of p) r).0)
 order_after s u p Reserves g k x (none, l, e) f o =
-    joins s.order u.order g _ _ o (block_reserved x.usage (block_of p) f).0 (s.ordered g ∙ open_only (group_of s g).usage l.here)
+    joins s.order u.order g x o (block_reserved x.usage (block_of p) f).0 (s.ordered g ∙ open_only (group_of s g).usage l.here)
     ∙ ap (λ m. put_last (older s) m g) (fun_ext s.ordered)
-order_after s u p Spare g k x (r, e) f o = gone_unless s.order u.order g _ _ o (broken_only x.usage f).0 (s.ordered g ∙ (broken_only (group_of s g).usage e).0)
-order_after s u p Breaks g k x (r, n, e) f o = gone_unless s.order u.order g _ _ o (broken_only x.usage f).0 (s.ordered g ∙ open_only (group_of s g).usage e)
-order_after s u p BreaksOldest g k x r f o = leaves s.order u.order g _ _ o (broken_only x.usage f).0
+order_after s u p Spare g k x (r, e) f o = gone_unless s.order u.order g x o (broken_only x.usage f).0 (s.ordered g ∙ (broken_only (group_of s g).usage e).0)
+order_after s u p Breaks g k x (r, n, e) f o = gone_unless s.order u.order g x o (broken_only x.usage f).0 (s.ordered g ∙ open_only (group_of s g).usage e)
+order_after s u p BreaksOldest g k x r f o = leaves s.order u.order g x o (broken_only x.usage f).0
 
 -- a frame by its group and offset
-pub frame_group : (s : ReservationAllocator) (g k : ℕ) → k < 16 → (frame_at s g k - s.first) / 16 ≡ g
+pub frame_group : (s : ReservationAllocator) (g k : ℕ) → k < 16 → (frame_at s g k - s.stock.first) / 16 ≡ g
 frame_group s g k l = omega arith
 
-pub frame_offset : (s : ReservationAllocator) (g k : ℕ) → k < 16 → (frame_at s g k - s.first) % 16 ≡ k
+pub frame_offset : (s : ReservationAllocator) (g k : ℕ) → k < 16 → (frame_at s g k - s.stock.first) % 16 ≡ k
 frame_offset s g k l = omega arith
 
 pub frame_stock : (s : ReservationAllocator) (g k : ℕ) → g < 256 → k < 16 → group_stock s (frame_at s g k) ≡ true
-frame_stock s g k h l = and_from _ _ (le-leb s.first (frame_at s g k) (omega arith)) (lt-ltb (frame_at s g k - s.first) 4096 (omega arith))
+frame_stock s g k h l = and_from _ _ (le-leb s.stock.first (frame_at s g k) (omega arith)) (lt-ltb (frame_at s g k - s.stock.first) 4096 (omega arith))
 
 pub frame_out : (s : ReservationAllocator) (g k : ℕ) → g < 256 → k < 16 → group_out s (frame_at s g k) ≡ bit (group_of s g).out k
 frame_out s g k h l =
-    ap (λ x. x && bit (group_of s ((frame_at s g k - s.first) / 16)).out ((frame_at s g k - s.first) % 16)) (frame_stock s g k h l)
+    ap (λ x. x && bit (group_of s ((frame_at s g k - s.stock.first) / 16)).out ((frame_at s g k - s.stock.first) % 16)) (frame_stock s g k h l)
     ∙ ap₂ (λ x y. bit (group_of s x).out y) (frame_group s g k l) (frame_offset s g k l)
 
 -- whether a frame is out, where the first frame is n
@@ -132,48 +159,48 @@ out_from u n q = (leb n q && ltb (q - n) 4096) && bit (group_of u ((q - n) / 16)
 
 -- just that frame went out, or came in
 pub out_changed : (s u : ReservationAllocator) (g k : ℕ) (b : Bool) → g < 256 → k < 16 → OnlyGroup s g u → OutAt (group_of s g) k b (group_of u g) → group_out u ≡ at (group_out s) (frame_at s g k) b
-out_changed s u g k b h l only out = fun_ext (λ q. ap (λ n. out_from u n q) only.first ∙ ⊎_elim
-    (λ e. ap (out_from u s.first) e
-    ∙ ap (λ x. x && bit (group_of u ((frame_at s g k - s.first) / 16)).out ((frame_at s g k - s.first) % 16)) (frame_stock s g k h l)
+out_changed s u g k b h l only out = fun_ext (λ q. ap (λ z. out_from u z.first q) only.stock ∙ ⊎_elim
+    (λ e. ap (out_from u s.stock.first) e
+    ∙ ap (λ x. x && bit (group_of u ((frame_at s g k - s.stock.first) / 16)).out ((frame_at s g k - s.stock.first) % 16)) (frame_stock s g k h l)
     ∙ ap₂ (λ x y. bit (group_of u x).out y) (frame_group s g k l) (frame_offset s g k l)
     ∙ ap (λ f. f k) out ∙ at_here (bit (group_of s g).out) k b k refl
     ∙ sym (at_here (group_out s) (frame_at s g k) b q e))
     (λ ne. elsewhere q ne ∙ sym (at_there (group_out s) (frame_at s g k) b q ne))
     (cases_eq q (frame_at s g k)))
   where
-    elsewhere : (q : ℕ) → (q ≡ frame_at s g k → ⊥) → out_from u s.first q ≡ group_out s q
+    elsewhere : (q : ℕ) → (q ≡ frame_at s g k → ⊥) → out_from u s.stock.first q ≡ group_out s q
     elsewhere q ne = ⊎_elim
         (λ t. ap (λ x. group_stock s q && x)
         (⊎_elim
-        (λ i. let a = leb-true s.first q (and_parts _ _ t).0 in
-        let other : (q - s.first) % 16 ≡ k → ⊥ = λ j. ne (omega arith) in
-        ap (λ x. bit (group_of u x).out ((q - s.first) % 16)) i ∙ ap (λ f. f ((q - s.first) % 16)) out
-        ∙ at_there (bit (group_of s g).out) k b ((q - s.first) % 16) other ∙ ap (λ x. bit (group_of s x).out ((q - s.first) % 16)) (sym i))
-        (λ i. ap (λ x. bit x.out ((q - s.first) % 16)) (only.others ((q - s.first) / 16) i))
-        (cases_eq ((q - s.first) / 16) g)))
+        (λ i. let a = leb-true s.stock.first q (and_parts _ _ t).0 in
+        let other : (q - s.stock.first) % 16 ≡ k → ⊥ = λ j. ne (omega arith) in
+        ap (λ x. bit (group_of u x).out ((q - s.stock.first) % 16)) i ∙ ap (λ f. f ((q - s.stock.first) % 16)) out
+        ∙ at_there (bit (group_of s g).out) k b ((q - s.stock.first) % 16) other ∙ ap (λ x. bit (group_of s x).out ((q - s.stock.first) % 16)) (sym i))
+        (λ i. ap (λ x. bit x.out ((q - s.stock.first) % 16)) (only.others ((q - s.stock.first) / 16) i))
+        (cases_eq ((q - s.stock.first) / 16) g)))
         (λ f. and_left (group_stock s q) _ f ∙ sym (and_left (group_stock s q) _ f))
         (cases_Bool (group_stock s q))
 
 -- what the writing of a group says of the allocator after it
-pub only_group : (s u : ReservationAllocator) (g : ℕ) (x : Group) → u.first ≡ s.first → group_of u ≡ at (group_of s) g x → OnlyGroup s g u
-only_group s u g x first stored = record { first = first; others = λ h ne. ap (λ f. f h) stored ∙ at_there (group_of s) g x h ne }
+pub only_group : (s u : ReservationAllocator) (g : ℕ) (x : Group) → u.stock ≡ s.stock → group_of u ≡ at (group_of s) g x → OnlyGroup s g u
+only_group s u g x stock stored = record { stock = stock; others = λ h ne. ap (λ f. f h) stored ∙ at_there (group_of s) g x h ne }
 
 pub written : (s u : ReservationAllocator) (g : ℕ) (x : Group) → group_of u ≡ at (group_of s) g x → group_of u g ≡ x
 written s u g x stored = ap (λ f. f g) stored ∙ at_here (group_of s) g x g refl
 
-pub same_stock : (s u : ReservationAllocator) → u.first ≡ s.first → group_stock u ≡ group_stock s
-same_stock s u e = ap (λ n f. leb n f && ltb (f - n) 4096) e
+pub same_stock : (s u : ReservationAllocator) → u.stock ≡ s.stock → group_stock u ≡ group_stock s
+same_stock s u e = ap (λ z. in_stock z.first) e
 
-pub took : (s u : ReservationAllocator) (p : ℕ) (c : Choice) (f : ℕ) (old x : Group) → Chosen s p c → old ≡ group_of s c.group → OutAt old c.offset.number true x → UsedAs p c.step x.usage →
-    u.first ≡ s.first → group_of u ≡ at (group_of s) c.group x → Updated s.order c.group (is_reserved x) (has_in x) u.order → f ≡ frame_at s c.group c.offset.number → Taken s p c f u
-took s u p c f old x chosen was out used first stored order frame =
-    let e = written s u c.group x stored in
+pub took : (s u : ReservationAllocator) (p : ℕ) (c : Choice) (f : ℕ) (old x : Group) → Chosen s p c → old ≡ group_of s c.spot.group → OutAt old c.spot.offset.number true x → UsedAs p c.step x.usage →
+    u.stock ≡ s.stock → group_of u ≡ at (group_of s) c.spot.group x → Updated s.order c.spot.group (turn_of x) u.order → f ≡ frame_at s c.spot.group c.spot.offset.number → Taken s p c f u
+took s u p c f old x chosen was out used stock stored order frame =
+    let e = written s u c.spot.group x stored in
     record {
       frame = frame;
-      only = only_group s u c.group x first stored;
-      out = ap (λ y. bit y.out) e ∙ out ∙ ap (λ y. at (bit y.out) c.offset.number true) was;
+      only = only_group s u c.spot.group x stock stored;
+      out = ap (λ y. bit y.out) e ∙ out ∙ ap (λ y. at (bit y.out) c.spot.offset.number true) was;
       usage = subst (λ y. UsedAs p c.step y.usage) (sym e) used;
-      order = order_after s u p c.step c.group c.offset.number x chosen.rule used order;
+      order = order_after s u p c.step c.spot.group c.spot.offset.number x chosen.rule used order;
     }
 
 -- a group that a frame comes back to
@@ -195,16 +222,16 @@ module _ (s : ReservationAllocator) (g k : ℕ) (old x : Group) (was : old ≡ g
   back_single h e = by_usage (h ≡ g) (λ a t. absurd (open_alone x.usage (group_of s h).usage a e))
       (λ d f. sym (s.single g h (ap (λ y. same_block y (group_of s h).usage) (sym d) ∙ e)))
 
-  back_order : (u : ReservationAllocator) → Updated s.order g (is_reserved x) (has_in x) u.order → MatchBool (is_open x) (older u ≡ taken_out (older s) g) (older u ≡ older s)
+  back_order : (u : ReservationAllocator) → Updated s.order g (turn_of x) u.order → MatchBool (is_open x) (older u ≡ taken_out (older s) g) (older u ≡ older s)
   back_order u o = by_usage _
-      (λ a t. subst (λ y. MatchBool y (older u ≡ taken_out (older s) g) (older u ≡ older s)) (sym a) (leaves s.order u.order g _ _ o (open_only x.usage a)))
-      (λ d f. subst (λ y. MatchBool y (older u ≡ taken_out (older s) g) (older u ≡ older s)) (sym (ap open_use d ∙ not_open)) (still s.order u.order g _ _ o (ap reserved_use d ∙ sym (s.ordered g))))
+      (λ a t. subst (λ y. MatchBool y (older u ≡ taken_out (older s) g) (older u ≡ older s)) (sym a) (leaves s.order u.order g x o (open_only x.usage a)))
+      (λ d f. subst (λ y. MatchBool y (older u ≡ taken_out (older s) g) (older u ≡ older s)) (sym (ap open_use d ∙ not_open)) (still s.order u.order g x o (ap reserved_use d ∙ sym (s.ordered g))))
 
-  pub came_in : (u : ReservationAllocator) → u.first ≡ s.first → group_of u ≡ at (group_of s) g x → Updated s.order g (is_reserved x) (has_in x) u.order → CameIn s g k u
-  came_in u first stored order =
+  pub came_in : (u : ReservationAllocator) → u.stock ≡ s.stock → group_of u ≡ at (group_of s) g x → Updated s.order g (turn_of x) u.order → CameIn s g k u
+  came_in u stock stored order =
       let e = sym (written s u g x stored) in
       record {
-        only = only_group s u g x first stored;
+        only = only_group s u g x stock stored;
         returned = subst (λ y. Returned (group_of s g) k y) e (subst (λ y. Returned y k x) was back);
         order = subst (λ y. MatchBool (is_open y) (older u ≡ taken_out (older s) g) (older u ≡ older s)) e (back_order u order);
       }

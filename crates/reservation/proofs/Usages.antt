@@ -1,5 +1,7 @@
 -- What a group is used for, and what that tells of it.
-use Rattle.std.proofs.Common.{◌≡◌, ℕ, Bool, true, false, ◌&&◌, IfSome, Some, None, Option, sym, refl, ap, ◌∙◌, arith, MatchOption}
+use Rattle.std.proofs.Common.{◌≡◌, ℕ, Bool, true, false, ◌&&◌, IfSome, Some, None, Option, Result, Ok, Err, sym, refl, ap, ◌∙◌, subst, arith, MatchOption}
+use Rattle.std.specs.Bool.{then_some}
+use Rattle.std.specs.Result.{result_ok}
 use Rattle.std.proofs.lemmas.Bool.{both_ways, eqb-true, eqb-false, eq-eqb, ne_eqb}
 use Rattle.words.specs.Layout.{bucket_of}
 use Rattle.reservation.specs.declared.group.Usage.{Usage}
@@ -79,3 +81,15 @@ cases_map (Some x) A A' B B' c f g = g x c
 pub cases_found : {X : Type 0} (o : Option X) (A : Type 0) (B B' : X → Type 0) → MatchOption o A B → ((x : X) → B x → B' x) → IfSome o B'
 cases_found None A B B' c g = tt
 cases_found (Some x) A B B' c g = g x c
+
+-- an answer after `ok_or` and `?`
+pub at_ok : {X E : Type 0} (o : Option X) (r : Result X E) (x : X) (A : Type 0) (B : X → Type 0) → MatchOption o A B → o ≡ result_ok r → r ≡ Ok x → B x
+at_ok o r x A B h e f = subst (λ p. MatchOption p A B) (e ∙ ap result_ok f) h
+
+pub at_err : {X E : Type 0} (o : Option X) (r : Result X E) (x : E) (A : Type 0) (B : X → Type 0) → MatchOption o A B → o ≡ result_ok r → r ≡ Err x → A
+at_err o r x A B h e f = subst (λ p. MatchOption p A B) (e ∙ ap result_ok f) h
+
+-- an answer that is there where a test passes
+pub by_test : {X : Type 0} (o : Option X) (b : Bool) (x : X) (A : Type 0) (B : X → Type 0) → o ≡ then_some b x → (b ≡ false → A) → (b ≡ true → B x) → MatchOption o A B
+by_test o true x A B e f g = subst (λ p. MatchOption p A B) (sym e) (g refl)
+by_test o false x A B e f g = subst (λ p. MatchOption p A B) (sym e) (f refl)

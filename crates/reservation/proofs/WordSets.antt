@@ -4,12 +4,12 @@ use mathlib.Core.Path.{fun_ext}
 use native.Mathlib.Nat.{zero-div}
 use lib.Bits.{bit_and, bit_or}
 use lib.Count.{count_trailing_zeros, under}
-use Rattle.std.proofs.lemmas.Nat.{shr-shr, shr_le}
+use Rattle.std.proofs.lemmas.Nat.{shr-shr}
 use Rattle.std.proofs.lemmas.List.{get_or-set_same, get_or-set_other, get_or_past, get_or-replicate, length-replicate}
 use Rattle.std.proofs.lemmas.Bool.{cases_eq, cases_lt, both_ways, eq-eqb, ne_eqb, eqb-true, lt-ltb, le-ltb, cond-true, cond-false}
 use Rattle.words.specs.Layout.{bit}
 use Rattle.words.specs.Points.{at}
-use Rattle.words.proofs.Flip.{no_bit, one_bit, high_bit, complement_bit, cleared_bit, joined_bit}
+use Rattle.words.proofs.Flip.{no_bit, one_bit, complement_bit, cleared_bit, joined_bit}
 use Rattle.reservation.specs.Sets.{in_words, NoneFrom, FirstFrom}
 
 half_bit : (w j : ℕ) → bit w (suc j) ≡ bit (w / 2) j
@@ -88,30 +88,6 @@ in_words_below ws k h = ⊎_elim (λ l. l) (λ l. absurd (both_ways _ (past_word
 at_word : (ws : List ℕ) (i j : ℕ) → j / 64 ≡ i → in_words ws j ≡ bit (get_or ws i 0) (j % 64)
 at_word ws i j e = ap (λ x. bit (get_or ws x 0) (j % 64)) e
 
--- what is left of a word from a bit on
-pub first_left : (ws : List ℕ) (a : ℕ) → get_or ws (a / 64) 0 < 2 ^ 64 → 0 < get_or ws (a / 64) 0 / 2 ^ (a % 64) → FirstFrom (in_words ws) a (a + count_trailing_zeros 64 (get_or ws (a / 64) 0 / 2 ^ (a % 64)))
-first_left ws a h p =
-    let w = get_or ws (a / 64) 0 in
-    let s = a % 64 in
-    let low = lowest_bit 64 (w / 2 ^ s) p (lower w s h) in
-    let t = count_trailing_zeros 64 (w / 2 ^ s) in
-    let up : bit w (s + t) ≡ true = sym (moved w s t) ∙ low.here in
-    let l : s + t < 64 = ⊎_elim (λ x. x) (λ x. absurd (both_ways _ (high_bit 64 (s + t) w h x) up)) (cases_lt (s + t) 64) in
-    let e : (a + t) % 64 ≡ s + t = omega arith in
-    record {
-      from = omega arith;
-      here = at_word ws (a / 64) (a + t) (omega arith) ∙ ap (bit w) e ∙ up;
-      before = λ j x y.
-          let f : j % 64 ≡ s + (j - a) = omega arith in
-          at_word ws (a / 64) j (omega arith) ∙ ap (bit w) f ∙ sym (moved w s (j - a)) ∙ low.before (j - a) (omega arith);
-    }
-  where
-    moved : (w s j : ℕ) → bit (w / 2 ^ s) j ≡ bit w (s + j)
-    moved w s j = ap (λ x. eqb (x % 2) 1) (shr-shr w s j)
-
-    lower : (w s : ℕ) → w < 2 ^ 64 → w / 2 ^ s < 2 ^ 64
-    lower w s h = let a = shr_le w s in omega arith
-
 -- a whole word, where the words before it have nothing
 pub first_in : (ws : List ℕ) (a i : ℕ) → ((j : ℕ) → a ≤ j → j < 64 * i → in_words ws j ≡ false) → a ≤ 64 * i → get_or ws i 0 < 2 ^ 64 → 0 < get_or ws i 0 → FirstFrom (in_words ws) a (64 * i + count_trailing_zeros 64 (get_or ws i 0))
 first_in ws a i none le h p =
@@ -128,25 +104,9 @@ first_in ws a i none le h p =
           (cases_lt j (64 * i));
     }
 
--- a word of zero has nothing
-pub none_left : (ws : List ℕ) (a : ℕ) → get_or ws (a / 64) 0 / 2 ^ (a % 64) ≡ 0 → (j : ℕ) → a ≤ j → j < 64 * (a / 64 + 1) → in_words ws j ≡ false
-none_left ws a z j x y =
-    let w = get_or ws (a / 64) 0 in
-    let e : j % 64 ≡ a % 64 + (j - a) = omega arith in
-    at_word ws (a / 64) j (omega arith) ∙ ap (bit w) e
-    ∙ ap (λ v. eqb (v % 2) 1) (sym (shr-shr w (a % 64) (j - a)))
-    ∙ ap (λ v. bit v (j - a)) z ∙ no_bit (j - a)
-
-pub none_more : (ws : List ℕ) (a i : ℕ) → ((j : ℕ) → a ≤ j → j < 64 * i → in_words ws j ≡ false) → get_or ws i 0 ≡ 0 → (j : ℕ) → a ≤ j → j < 64 * (i + 1) → in_words ws j ≡ false
-none_more ws a i none z j x y =
-    ⊎_elim
-    (none j x)
-    (λ l. at_word ws i j (omega arith) ∙ ap (λ v. bit v (j % 64)) z ∙ no_bit (j % 64))
-    (cases_lt j (64 * i))
-
-pub none_all : (ws : List ℕ) (a i : ℕ) → ((j : ℕ) → a ≤ j → j < 64 * i → in_words ws j ≡ false) → length ws ≤ i → NoneFrom (in_words ws) a
-none_all ws a i none l j x =
-    ⊎_elim (none j x) (λ h. past_words ws j (omega arith) j (omega arith)) (cases_lt j (64 * i))
+-- words of zero have nothing
+pub none_before : (ws : List ℕ) (i : ℕ) → ((k : ℕ) → k < i → get_or ws k 0 ≡ 0) → (j : ℕ) → 0 ≤ j → j < 64 * i → in_words ws j ≡ false
+none_before ws i z j x l = ap (λ w. bit w (j % 64)) (z (j / 64) (omega arith)) ∙ no_bit (j % 64)
 
 -- sets that are empty, and full
 pub no_words : (n k : ℕ) → in_words (replicate n 0) k ≡ false

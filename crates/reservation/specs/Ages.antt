@@ -1,15 +1,20 @@
 -- The order in which groups were reserved, and which of them wait.
-use Rattle.std.specs.Prelude.{◌≡◌, ℕ, ◌≤◌, Bool, true, cond, not, ◌&&◌, MatchBool, ◌==◌, ◌≢◌, nat_lt, slice_index}
+use Rattle.std.specs.Prelude.{◌≡◌, ℕ, ◌≤◌, Bool, true, false, cond, not, ◌&&◌, Option, None, Some, MatchBool, ◌==◌, ◌≢◌, nat_lt, slice_index, slice_index_or}
+use Rattle.std.specs.Option.{is_some, unwrap_or}
 use Rattle.words.specs.Points.{at}
 use Rattle.reservation.specs.declared.age_order.AgeOrder.{AgeOrder}
 use Rattle.reservation.specs.Sets.{has}
 
+-- the place of the group, where it is in the order
+abbrev pub place_in : AgeOrder → ℕ → Option ℕ
+place_in a g = slice_index_or a.places g None
+
 -- the group is in the order
 abbrev pub member : AgeOrder → ℕ → Bool
-member a g = has a.members g
+member a g = is_some (place_in a g)
 
 abbrev pub place_of : AgeOrder → ℕ → ℕ
-place_of a g = slice_index a.places g
+place_of a g = unwrap_or (place_in a g) 0
 
 -- both groups are in the order, g before h
 abbrev pub before : AgeOrder → ℕ → ℕ → Bool
@@ -21,7 +26,7 @@ waits a g = member a g && has a.waiting (place_of a g)
 
 -- a group of the order has the place p
 abbrev pub taken : AgeOrder → ℕ → Bool
-taken a p = member a (slice_index a.groups p) && place_of a (slice_index a.groups p) == p
+taken a p = member a (slice_index a.groups.items p) && place_of a (slice_index a.groups.items p) == p
 
 -- no group of the order has a place from n on but below p
 abbrev pub Gap : AgeOrder → ℕ → ℕ → Type 0
@@ -39,8 +44,31 @@ pub record Oldest (a : AgeOrder) (g : ℕ) : Type 0 where
   pub here : waits a g ≡ true
   pub first : (h : ℕ) → waits a h ≡ true → (h ≢ g) → before a g h ≡ true
 
--- a group joins at the end, stays where it is, or leaves
-pub record Updated (a : AgeOrder) (g : ℕ) (stays wait : Bool) (b : AgeOrder) : Type 0 where
-  pub within : member b ≡ at (member a) g stays
-  pub order : MatchBool stays (MatchBool (member a g) (before b ≡ before a) (before b ≡ put_last (before a) (member a) g)) (before b ≡ taken_out (before a) g)
-  pub waiting : waits b ≡ at (waits a) g (stays && wait)
+-- the same groups are in the order, one before the other as they were, and the same wait
+pub record SameOrder (a b : AgeOrder) : Type 0 where
+  pub within : member b ≡ member a
+  pub order : before b ≡ before a
+  pub waiting : waits b ≡ waits a
+
+-- the group joins at the end
+pub record Joins (a : AgeOrder) (g : ℕ) (wait : Bool) (b : AgeOrder) : Type 0 where
+  pub within : member b ≡ at (member a) g true
+  pub order : before b ≡ put_last (before a) (member a) g
+  pub waiting : waits b ≡ at (waits a) g wait
+
+-- the group stays where it is
+pub record Stays (a : AgeOrder) (g : ℕ) (wait : Bool) (b : AgeOrder) : Type 0 where
+  pub within : member b ≡ at (member a) g true
+  pub order : before b ≡ before a
+  pub waiting : waits b ≡ at (waits a) g wait
+
+-- the group leaves
+pub record Leaves (a : AgeOrder) (g : ℕ) (b : AgeOrder) : Type 0 where
+  pub within : member b ≡ at (member a) g false
+  pub order : before b ≡ taken_out (before a) g
+  pub waiting : waits b ≡ at (waits a) g false
+
+-- a group whose turn can come joins at the end or stays where it is; any other leaves
+abbrev pub Updated : AgeOrder → ℕ → Option Bool → AgeOrder → Type 0
+Updated a g (Some wait) b = MatchBool (member a g) (Stays a g wait b) (Joins a g wait b)
+Updated a g None b = Leaves a g b

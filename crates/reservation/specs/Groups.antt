@@ -1,5 +1,6 @@
 -- A group of sixteen frames.
-use Rattle.std.specs.Prelude.{◌≡◌, ℕ, ◌<◌, Bool, true, false, not, ◌&&◌, List, MatchBool, ◌==◌, slice_index_or}
+use Rattle.std.specs.Prelude.{◌≡◌, ℕ, ◌<◌, Bool, true, false, not, ◌&&◌, List, Option, MatchBool, ◌==◌, slice_index_or}
+use Rattle.std.specs.Bool.{then_some}
 use Rattle.words.specs.Layout.{bit, bucket_of}
 use Rattle.words.specs.Points.{at}
 use Rattle.reservation.specs.declared.group.Group.{Group}
@@ -58,6 +59,10 @@ is_spare g = is_broken g && has_in g
 
 abbrev pub waits_in : Group → Bool
 waits_in g = is_reserved g && has_in g
+
+-- whether a group waits for its turn to give a frame, where it is reserved
+abbrev pub turn_of : Group → Option Bool
+turn_of g = then_some (is_reserved g) (has_in g)
 
 -- the frame at the offset k is in
 abbrev pub In : Group → ℕ → Type 0

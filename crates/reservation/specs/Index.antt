@@ -1,8 +1,10 @@
 -- The reserved groups, by the bucket of their block.
-use Rattle.std.specs.Prelude.{◌≡◌, ℕ, zero, suc, Bool, true, false, List, [], ◌∷◌, ◌≢◌}
+use Rattle.std.specs.Prelude.{◌≡◌, ℕ, zero, suc, Bool, true, false, List, [], ◌∷◌, filter, ◌≢◌}
+use Rattle.std.specs.List.{range_with_len}
 use Rattle.words.specs.Points.{at}
 use Rattle.reservation.specs.declared.bit_set.BitSet.{BitSet}
 use Rattle.reservation.specs.declared.block_index.BlockIndex.{BlockIndex}
+use Rattle.reservation.specs.declared.block_index.Groups.{Groups}
 use Rattle.reservation.specs.declared.group.Usage.{Usage}
 use Rattle.reservation.specs.Groups.{bucket_use}
 use Rattle.reservation.specs.Sets.{has}
@@ -16,6 +18,14 @@ nth_has (s ∷ ss) (suc h) k = nth_has ss h k
 -- the group k is in the bucket h
 abbrev pub in_bucket : BlockIndex → ℕ → ℕ → Bool
 in_bucket x = nth_has x.buckets
+
+-- of the n numbers from a on, those that pass the test
+unfoldable pub passing : (ℕ → Bool) → ℕ → ℕ → List ℕ
+passing test a n = filter test (range_with_len a n)
+
+-- the groups that are still to come, the lowest first
+abbrev pub groups_left : Groups → List ℕ
+groups_left x = passing (has x.left) 0 256
 
 -- the group g is in the bucket of its block, where it has one, and in no other
 abbrev pub ListedAs : BlockIndex → ℕ → Usage → Type 0

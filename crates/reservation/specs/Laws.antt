@@ -31,13 +31,13 @@ KeptAtOffset = (s u : ReservationAllocator) (p f : ℕ) (c : Choice) → Chosen 
 -- while a group is open, a page whose block has no group gets a frame, at its offset, of a group that is then reserved for its block
 abbrev pub OpenGroupGivesOffset : Type 0
 OpenGroupGivesOffset = (s u : ReservationAllocator) (p g : ℕ) (r : Result ℕ AllocateFault) → is_open (group_of s g) ≡ true → NoGroup s (block_of p) → reservation.allocated s p r u →
-    (f : ℕ) × (r ≡ Ok f) × (f % 16 ≡ offset_of p) × (block_use (block_of p) (group_of u ((f - s.first) / 16)).usage ≡ true)
+    (f : ℕ) × (r ≡ Ok f) × (f % 16 ≡ offset_of p) × (block_use (block_of p) (group_of u ((f - s.stock.first) / 16)).usage ≡ true)
 
 -- the rules leave open only what is free: two choices for a page go by one step, in the first two they are one frame, and in the last one group
 pub record Agree (c d : Choice) : Type 0 where
   pub step : c.step ≡ d.step
-  pub frame : own_group c.step ≡ true → (c.group ≡ d.group) × (c.offset.number ≡ d.offset.number)
-  pub oldest : last_step c.step ≡ true → c.group ≡ d.group
+  pub frame : own_group c.step ≡ true → (c.spot.group ≡ d.spot.group) × (c.spot.offset.number ≡ d.spot.offset.number)
+  pub oldest : last_step c.step ≡ true → c.spot.group ≡ d.spot.group
 
 abbrev pub Determined : Type 0
 Determined = (s : ReservationAllocator) (p : ℕ) (c d : Choice) → Chosen s p c → Chosen s p d → Agree c d

@@ -1,7 +1,8 @@
 -- What the reservation allocator means, by its groups and the order in which they were reserved.
-use Rattle.std.specs.Prelude.{◌≡◌, ℕ, ◌+◌, ◌-◌, ◌*◌, ◌/◌, ◌%◌, Bool, true, false, ◌&&◌, MatchBool, MatchResult, ◌≢◌, nat_le, nat_lt}
+use Rattle.std.specs.Prelude.{◌≡◌, ℕ, ◌+◌, ◌-◌, ◌*◌, ◌/◌, ◌%◌, Bool, true, false, ◌&&◌, MatchBool, MatchResult, ◌≢◌, nat_lt}
 use Rattle.words.specs.Layout.{bit, block_of, offset_of}
 use Rattle.frames.specs.Meaning.{FramesMeaning}
+use Rattle.frames.specs.Stock.{in_stock}
 use Rattle.reservation.specs.declared.group.Choice.{Choice}
 use Rattle.reservation.specs.declared.group.Group.{Group}
 use Rattle.reservation.specs.declared.group.Step.{Step}
@@ -21,13 +22,13 @@ older s = before s.order
 
 -- the frame at the offset k of the group g
 abbrev pub frame_at : ReservationAllocator → ℕ → ℕ → ℕ
-frame_at s g k = s.first + (16 * g + k)
+frame_at s g k = s.stock.first + (16 * g + k)
 
 abbrev pub group_stock : ReservationAllocator → ℕ → Bool
-group_stock s f = nat_le s.first f && nat_lt (f - s.first) 4096
+group_stock s = in_stock s.stock.first
 
 abbrev pub group_out : ReservationAllocator → ℕ → Bool
-group_out s f = group_stock s f && bit (group_of s ((f - s.first) / 16)).out ((f - s.first) % 16)
+group_out s f = group_stock s f && bit (group_of s ((f - s.stock.first) / 16)).out ((f - s.stock.first) % 16)
 
 -- no group is reserved for the block; none is open; none is broken and has a frame in; none has a frame in
 abbrev pub NoGroup : ReservationAllocator → ℕ → Type 0
@@ -68,8 +69,8 @@ Rule s p BreaksOldest g k = Unplaced s p × NoSpare s × NoOpen s × Longest s g
 
 -- a frame that is in, taken by its step's rule
 pub record Chosen (s : ReservationAllocator) (p : ℕ) (c : Choice) : Type 0 where
-  pub rule : Rule s p c.step c.group c.offset.number
-  pub within : In (group_of s c.group) c.offset.number
+  pub rule : Rule s p c.step c.spot.group c.spot.offset.number
+  pub within : In (group_of s c.spot.group) c.spot.offset.number
 
 -- what a group is used for after a step for the page p
 abbrev pub UsedAs : ℕ → Step → Usage → Type 0
@@ -89,16 +90,16 @@ OrderAfter s BreaksOldest g u = older u ≡ taken_out (older s) g
 
 -- only the group g is another
 pub record OnlyGroup (s : ReservationAllocator) (g : ℕ) (u : ReservationAllocator) : Type 0 where
-  pub first : u.first ≡ s.first
+  pub stock : u.stock ≡ s.stock
   pub others : (h : ℕ) → (h ≢ g) → group_of u h ≡ group_of s h
 
 -- the choice c was carried out for the page p, and gave the frame f
 pub record Taken (s : ReservationAllocator) (p : ℕ) (c : Choice) (f : ℕ) (u : ReservationAllocator) : Type 0 where
-  pub frame : f ≡ frame_at s c.group c.offset.number
-  pub only : OnlyGroup s c.group u
-  pub out : OutAt (group_of s c.group) c.offset.number true (group_of u c.group)
-  pub usage : UsedAs p c.step (group_of u c.group).usage
-  pub order : OrderAfter s c.step c.group u
+  pub frame : f ≡ frame_at s c.spot.group c.spot.offset.number
+  pub only : OnlyGroup s c.spot.group u
+  pub out : OutAt (group_of s c.spot.group) c.spot.offset.number true (group_of u c.spot.group)
+  pub usage : UsedAs p c.step (group_of u c.spot.group).usage
+  pub order : OrderAfter s c.step c.spot.group u
 
 -- the frame at the offset k of the group g came in; a group that opens leaves the order
 pub record CameIn (s : ReservationAllocator) (g k : ℕ) (u : ReservationAllocator) : Type 0 where
@@ -111,11 +112,11 @@ reservation = record {
   stock = group_stock;
   out = group_out;
   allocated = λ s p r u. MatchResult r (λ f. (c : Choice) × Chosen s p c × Taken s p c f u) (λ e. NoneIn s × (u ≡ s));
-  freed = λ s f r u. MatchResult r (λ x. CameIn s ((f - s.first) / 16) ((f - s.first) % 16) u) (λ e. u ≡ s);
+  freed = λ s f r u. MatchResult r (λ x. CameIn s ((f - s.stock.first) / 16) ((f - s.stock.first) % 16) u) (λ e. u ≡ s);
 }
 
 -- a new allocator has the frames from 16 * g on, and every group is open
 pub record NewReservation (g : ℕ) (u : ReservationAllocator) : Type 0 where
-  pub first : u.first ≡ 16 * g
+  pub first : u.stock.first ≡ 16 * g
   pub vacant : (h : ℕ) → is_open (group_of u h) ≡ nat_lt h 256
   pub none : (f : ℕ) → group_out u f ≡ false

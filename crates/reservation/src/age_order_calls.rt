@@ -1,32 +1,33 @@
 // Groups join the order, leave it, wait, and move down.
-ghost use Rattle.std.specs.Prelude.{◌≡◌, ℕ, ◌<◌, ◌≤◌, true, false, ◌&&◌, length, MatchBool, MatchOption, slice_index, slice_set};
-ghost use Rattle.words.specs.Points.{at};
-ghost use Rattle.reservation.specs.Ages.{member, before, waits, taken, Gap, put_last, taken_out, Oldest, Updated};
+ghost use Rattle.std.specs.Prelude.{◌≡◌, ℕ, ◌<◌, ◌≤◌, true, false, Some, length, MatchOption, slice_index, slice_set};
+ghost use Rattle.arrayvec.specs.ArrayVec.{array_vec_len};
+ghost use Rattle.reservation.specs.Ages.{member, waits, taken, Gap, Oldest, SameOrder, Joins, Leaves, Updated};
 
 use crate::age_order::AgeOrder;
 use crate::bit_set::BitSet;
+use arrayvec::ArrayVec;
 
 impl AgeOrder {
     pub(crate) fn empty() -> AgeOrder
         ensures { (g : ℕ) → member result g ≡ false }
     {
         AgeOrder {
-            places: [0; 256],
-            groups: [0; 512],
-            used: 0,
-            members: BitSet::empty(),
+            places: [None; 256],
+            groups: ArrayVec::new(),
             waiting: BitSet::empty(),
         }
     }
 
-    // Puts the group last, keeps it where it is, or takes it out.
-    pub(crate) fn update(&mut self, group: u8, stays: bool, wait: bool)
-        ensures { Updated self.old group stays wait self.new }
+    // Puts a group last or keeps it where it is, and notes whether it waits; without a turn it leaves.
+    pub(crate) fn update(&mut self, group: u8, turn: Option<bool>)
+        ensures { Updated self.old group turn self.new }
     {
-        if !stays {
+        let Some(wait) = turn else {
             self.leave(group);
-        } else if self.members.has(group as usize) {
-            self.mark(group, wait);
+            return;
+        };
+        if let Some(place) = self.places[usize::from(group)] {
+            self.waiting.put(usize::from(place), wait);
         } else {
             self.join(group, wait);
         }
@@ -36,38 +37,22 @@ impl AgeOrder {
     pub(crate) fn oldest(&self) -> Option<u8>
         ensures { MatchOption result ((g : ℕ) → waits self.now g ≡ false) (λ g. Oldest self.now g) }
     {
-        let Some(place) = self.waiting.first_from(0) else {
-            return None;
-        };
+        let place = self.waiting.first()?;
         Some(self.groups[place])
     }
 
     fn leave(&mut self, group: u8)
-        ensures within { member self.new ≡ at (member self.old) group false }
-        ensures order { before self.new ≡ taken_out (before self.old) group }
-        ensures waiting { waits self.new ≡ at (waits self.old) group false }
+        ensures { Leaves self.old group self.new }
     {
-        if self.members.has(group as usize) {
-            self.members.put(group as usize, false);
-            self.waiting
-                .put(self.places[group as usize] as usize, false);
+        if let Some(place) = self.places[usize::from(group)] {
+            self.places[usize::from(group)] = None;
+            self.waiting.put(usize::from(place), false);
         }
-    }
-
-    fn mark(&mut self, group: u8, wait: bool)
-        requires { member self.old group ≡ true }
-        ensures within { member self.new ≡ at (member self.old) group true }
-        ensures order { before self.new ≡ before self.old }
-        ensures waiting { waits self.new ≡ at (waits self.old) group wait }
-    {
-        self.waiting.put(self.places[group as usize] as usize, wait);
     }
 
     fn join(&mut self, group: u8, wait: bool)
         requires { member self.old group ≡ false }
-        ensures within { member self.new ≡ at (member self.old) group true }
-        ensures order { before self.new ≡ put_last (before self.old) (member self.old) group }
-        ensures waiting { waits self.new ≡ at (waits self.old) group wait }
+        ensures { Joins self.old group wait self.new }
     {
         self.make_room();
         self.append(group, wait);
@@ -75,55 +60,47 @@ impl AgeOrder {
 
     // Sees that a place is free.
     fn make_room(&mut self)
-        ensures within { member self.new ≡ member self.old }
-        ensures order { before self.new ≡ before self.old }
-        ensures waiting { waits self.new ≡ waits self.old }
-        ensures room { self.new.used < 512 }
+        ensures same { SameOrder self.old self.new }
+        ensures room { array_vec_len self.new.groups < 512 }
     {
-        if self.used == 512 {
+        if self.groups.is_full() {
             self.compact();
         }
     }
 
     fn append(&mut self, group: u8, wait: bool)
         requires new { member self.old group ≡ false }
-        requires room { self.old.used < 512 }
-        ensures within { member self.new ≡ at (member self.old) group true }
-        ensures order { before self.new ≡ put_last (before self.old) (member self.old) group }
-        ensures waiting { waits self.new ≡ at (waits self.old) group wait }
+        requires room { array_vec_len self.old.groups < 512 }
+        ensures { Joins self.old group wait self.new }
     {
-        let place = self.used;
-        self.places[group as usize] = place as u16;
-        self.groups[place] = group;
-        self.members.put(group as usize, true);
+        let place = self.groups.len();
+        self.places[usize::from(group)] = Some(place as u16);
+        self.groups.push(group);
         self.waiting.put(place, wait);
-        self.used = place + 1;
     }
 
     // Moves the groups to the lowest places, in their order.
     fn compact(&mut self)
-        ensures within { member self.new ≡ member self.old }
-        ensures order { before self.new ≡ before self.old }
-        ensures waiting { waits self.new ≡ waits self.old }
-        ensures room { self.new.used ≤ 256 }
+        ensures same { SameOrder self.old self.new }
+        ensures room { array_vec_len self.new.groups ≤ 256 }
     {
         let mut lowest = 0;
-        for place in 0..512usize {
+        // By index and with a counter: what an iterator lends could not be written while it runs.
+        for place in 0..self.groups.len() {
             if self.is_taken(place) {
                 self.move_down(place, lowest);
                 lowest += 1;
             }
         }
-        self.used = lowest;
+        self.groups.truncate(lowest);
     }
 
-    // Whether the place has a group.
+    // Whether a group of the order has the place.
     fn is_taken(&self, place: usize) -> bool
-        requires { place < 512 }
+        requires { place < array_vec_len self.now.groups }
         ensures { result ≡ taken self.now place }
     {
-        let group = self.groups[place] as usize;
-        self.members.has(group) && self.places[group] as usize == place
+        self.places[usize::from(self.groups[place])] == Some(place as u16)
     }
 
     // The group at one place goes to a lower one, past places that have none.
@@ -131,15 +108,13 @@ impl AgeOrder {
         requires here { taken self.old from ≡ true }
         requires down { to ≤ from }
         requires gap { Gap self.old to from }
-        ensures within { self.new.members ≡ self.old.members }
-        ensures order { before self.new ≡ before self.old }
-        ensures waiting { waits self.new ≡ waits self.old }
-        ensures moved { self.new.places ≡ slice_set self.old.places (slice_index self.old.groups from) to }
-        ensures wide { (length self.old.places ≡ 256) × (length self.old.groups ≡ 512) }
+        ensures same { SameOrder self.old self.new }
+        ensures moved { self.new.places ≡ slice_set self.old.places (slice_index self.old.groups.items from) (Some to) }
+        ensures wide { (length self.old.places ≡ 256) × (array_vec_len self.new.groups ≡ array_vec_len self.old.groups) }
     {
         let group = self.groups[from];
         let wait = self.waiting.has(from);
-        self.places[group as usize] = to as u16;
+        self.places[usize::from(group)] = Some(to as u16);
         self.groups[to] = group;
         self.waiting.put(from, false);
         self.waiting.put(to, wait);

@@ -1,5 +1,5 @@
 // What is in a set of small numbers, what goes in and out, and which comes first.
-ghost use Rattle.std.specs.Prelude.{◌≡◌, ℕ, ◌*◌, ◌<◌, ◌≤◌, true, false, IfSome, MatchOption, nat_lt};
+ghost use Rattle.std.specs.Prelude.{◌≡◌, ℕ, ◌*◌, ◌<◌, ◌≤◌, false, IfSome, MatchOption, nat_lt};
 ghost use Rattle.words.specs.Layout.{bit};
 ghost use Rattle.words.specs.Points.{at};
 ghost use Rattle.reservation.specs.Sets.{has, FirstFrom, NoneFrom};
@@ -45,26 +45,13 @@ impl<const N: usize> BitSet<N> {
         self.words[number / 64] = with_bit(self.words[number / 64], number % 64, on);
     }
 
-    // The lowest number of the set from the given one on.
-    pub(crate) fn first_from(&self, from: usize) -> Option<usize>
+    // The lowest number of the set.
+    pub(crate) fn first(&self) -> Option<usize>
         requires { N ≤ 1024 }
-        ensures first { MatchOption result (NoneFrom (has self.now) from) (λ k. FirstFrom (has self.now) from k) }
+        ensures first { MatchOption result (NoneFrom (has self.now) 0) (λ k. FirstFrom (has self.now) 0 k) }
         ensures within { IfSome result (λ k. k < 64 * N) }
     {
-        let start = from / 64;
-        if start >= N {
-            return None;
-        }
-        let rest = self.words[start] >> (from % 64);
-        if rest != 0 {
-            return Some(from + rest.trailing_zeros() as usize);
-        }
-        for i in start + 1..N {
-            let word = self.words[i];
-            if word != 0 {
-                return Some(64 * i + word.trailing_zeros() as usize);
-            }
-        }
-        None
+        let i = self.words.iter().position(|word| *word != 0)?;
+        Some(64 * i + self.words[i].trailing_zeros() as usize)
     }
 }

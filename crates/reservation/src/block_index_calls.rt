@@ -1,15 +1,23 @@
 // Groups go into buckets and out of them, and are looked up there.
-ghost use Rattle.std.specs.Prelude.{◌≡◌, ℕ, ◌<◌, true, false, IfSome, MatchOption};
+ghost use Rattle.std.specs.Prelude.{◌≡◌, ℕ, true, false, MatchOption};
+ghost use Rattle.std.specs.Iterator.{YieldsFirst, item_count};
 ghost use Rattle.words.specs.Layout.{bucket_of};
 ghost use Rattle.words.specs.Points.{at};
 ghost use Rattle.reservation.specs.Groups.{bucket_use};
-ghost use Rattle.reservation.specs.Index.{in_bucket, ListedAs, OthersListed, put_in};
-ghost use Rattle.reservation.specs.Sets.{FirstFrom, NoneFrom};
+ghost use Rattle.reservation.specs.Index.{in_bucket, groups_left, ListedAs, OthersListed, put_in};
+ghost use Rattle.reservation.specs.Sets.{has, FirstFrom, NoneFrom};
 
 use crate::bit_set::BitSet;
-use crate::block_index::BlockIndex;
+use crate::block_index::{BlockIndex, Groups};
 use crate::group::Usage;
 use words::Block;
+
+// The lowest group of a set.
+pub(crate) fn lowest(groups: &BitSet<4>) -> Option<u8>
+    ensures { MatchOption result (NoneFrom (has groups.now) 0) (λ g. FirstFrom (has groups.now) 0 g) }
+{
+    Some(groups.first()? as u8)
+}
 
 impl BlockIndex {
     pub(crate) fn empty() -> BlockIndex
@@ -35,15 +43,30 @@ impl BlockIndex {
         ensures { (h k : ℕ) → in_bucket self.new h k ≡ put_in (bucket_use h usage) (in_bucket self.old h) group on k }
     {
         if let Usage::Reserved(block) = usage {
-            self.buckets[block.bucket()].put(group as usize, on);
+            self.buckets[block.bucket()].put(usize::from(group), on);
         }
     }
 
-    // The lowest group of a block's bucket from the given one on.
-    pub(crate) fn first_from(&self, block: Block, from: usize) -> Option<usize>
-        ensures first { MatchOption result (NoneFrom (in_bucket self.now (bucket_of block.number)) from) (λ k. FirstFrom (in_bucket self.now (bucket_of block.number)) from k) }
-        ensures within { IfSome result (λ k. k < 256) }
+    // The groups of a block's bucket.
+    pub(crate) fn groups(&self, block: Block) -> Groups
+        ensures { has result.left ≡ in_bucket self.now (bucket_of block.number) }
     {
-        self.buckets[block.bucket()].first_from(from)
+        Groups {
+            left: self.buckets[block.bucket()],
+        }
+    }
+}
+
+impl Iterator for Groups {
+    type Item = u8;
+
+    ghost next_gives = { YieldsFirst groups_left };
+
+    ghost remaining = { item_count groups_left };
+
+    fn next(&mut self) -> Option<u8> {
+        let group = lowest(&self.left)?;
+        self.left.put(usize::from(group), false);
+        Some(group)
     }
 }

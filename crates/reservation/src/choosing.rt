@@ -1,14 +1,23 @@
 // Which frame a page gets.
 ghost use Rattle.std.specs.Prelude.{◌≡◌, ℕ, true, false, IfSome, MatchOption};
-ghost use Rattle.reservation.specs.Groups.{is_open, is_broken, is_spare, waits_in, has_in, block_use, In};
+ghost use Rattle.words.specs.Layout.{bit};
+ghost use Rattle.reservation.specs.Groups.{is_open, is_broken, waits_in, has_in, block_use, In};
 ghost use Rattle.reservation.specs.Reservation.{group_of, NoGroup, NoOpen, NoSpare, NoneIn, OnlyFor, Longest, Unplaced, Chosen};
 ghost use Rattle.reservation.specs.Sets.{FirstFrom};
 
+use crate::block_index_calls::lowest;
 use crate::group::{Choice, Step};
 use crate::reservation::ReservationAllocator;
-use words::{Block, Offset, Page};
+use crate::spot::Spot;
+use words::{Block, Page};
 
 impl ReservationAllocator {
+    pub(crate) fn is_out(&self, spot: Spot) -> bool
+        ensures { result ≡ bit (group_of self.now spot.group).out spot.offset.number }
+    {
+        self.groups[usize::from(spot.group)].is_out(spot.offset)
+    }
+
     // The frame that the first step with one gives.
     pub(crate) fn choose(&self, page: Page) -> Option<Choice>
         ensures { MatchOption result (NoneIn self.now) (λ c. Chosen self.now page.number c) }
@@ -25,22 +34,14 @@ impl ReservationAllocator {
     {
         let offset = page.offset();
         if let Some(group) = self.group_for(page.block()) {
-            if self.groups[group as usize].is_out(offset) {
-                return None;
-            }
-            return Some(Choice {
-                step: Step::Kept,
-                group,
-                offset,
-            });
+            let spot = Spot { group, offset };
+            let step = Step::Kept;
+            return (!self.is_out(spot)).then_some(Choice { step, spot });
         }
-        let Some(group) = self.lowest_open() else {
-            return None;
-        };
+        let group = self.lowest_open()?;
         Some(Choice {
             step: Step::Reserves,
-            group,
-            offset,
+            spot: Spot { group, offset },
         })
     }
 
@@ -52,24 +53,19 @@ impl ReservationAllocator {
         if let Some(group) = self.lowest_spare() {
             return Some(Choice {
                 step: Step::Spare,
-                group,
-                offset: self.lowest_in(group),
+                spot: self.lowest_in(group),
             });
         }
         if let Some(group) = self.lowest_open() {
             return Some(Choice {
                 step: Step::Breaks,
-                group,
-                offset: self.lowest_in(group),
+                spot: self.lowest_in(group),
             });
         }
-        let Some(group) = self.oldest() else {
-            return None;
-        };
+        let group = self.oldest()?;
         Some(Choice {
             step: Step::BreaksOldest,
-            group,
-            offset: self.lowest_in(group),
+            spot: self.lowest_in(group),
         })
     }
 
@@ -77,34 +73,29 @@ impl ReservationAllocator {
     fn group_for(&self, block: Block) -> Option<u8>
         ensures { MatchOption result (NoGroup self.now block.number) (λ g. OnlyFor self.now block.number g) }
     {
-        let mut from = 0;
-        while let Some(group) = self.index.first_from(block, from) {
-            if self.groups[group].is_reserved_for(block) {
-                return Some(group as u8);
-            }
-            from = group + 1;
-        }
-        None
+        self.index
+            .groups(block)
+            .find(|group| self.is_reserved_for(*group, block))
+    }
+
+    fn is_reserved_for(&self, group: u8, block: Block) -> bool
+        ensures { result ≡ block_use block.number (group_of self.now group).usage }
+    {
+        self.groups[usize::from(group)].is_reserved_for(block)
     }
 
     fn lowest_open(&self) -> Option<u8>
         ensures first { MatchOption result (NoOpen self.now) (λ g. FirstFrom (λ h. is_open (group_of self.now h)) 0 g) }
         ensures whole { IfSome result (λ g. (group_of self.now g).out ≡ 0) }
     {
-        let Some(group) = self.open_groups.first_from(0) else {
-            return None;
-        };
-        Some(group as u8)
+        lowest(&self.open_groups)
     }
 
     // A broken group with a frame in.
     fn lowest_spare(&self) -> Option<u8>
         ensures { MatchOption result (NoSpare self.now) (λ g. (is_broken (group_of self.now g) ≡ true) × (has_in (group_of self.now g) ≡ true)) }
     {
-        let Some(group) = self.spare_groups.first_from(0) else {
-            return None;
-        };
-        Some(group as u8)
+        lowest(&self.spare_groups)
     }
 
     // The group reserved longest ago that has a frame in.
@@ -116,10 +107,14 @@ impl ReservationAllocator {
     }
 
     // The lowest frame that is in, of a group that has one.
-    fn lowest_in(&self, group: u8) -> Offset
+    fn lowest_in(&self, group: u8) -> Spot
         requires { has_in (group_of self.now group) ≡ true }
-        ensures { In (group_of self.now group) result.number }
+        ensures group { result.group ≡ group }
+        ensures within { In (group_of self.now group) result.offset.number }
     {
-        self.groups[group as usize].lowest_in()
+        Spot {
+            group,
+            offset: self.groups[usize::from(group)].lowest_in(),
+        }
     }
 }

@@ -1,8 +1,9 @@
 // A group of sixteen frames.
-use words::{Block, Offset};
+use crate::spot::Spot;
+use words::Block;
 
 // What a group is used for.
-#[derive(Clone, Copy)]
+#[derive(Clone, Copy, PartialEq, Eq, Debug)]
 pub enum Usage {
     // Nothing: all its frames are in.
     Open,
@@ -13,14 +14,14 @@ pub enum Usage {
 }
 
 // `out` has one bit for each frame that is out, offset 0 in bit 0.
-#[derive(Clone, Copy)]
+#[derive(Clone, Copy, PartialEq, Eq, Debug)]
 pub struct Group {
     pub usage: Usage,
     pub out: u16,
 }
 
 // How a frame is found for a page, by the steps in their order.
-#[derive(Clone, Copy)]
+#[derive(Clone, Copy, PartialEq, Eq, Debug)]
 pub enum Step {
     // The frame at the page's offset in the group reserved for its block.
     Kept,
@@ -35,9 +36,8 @@ pub enum Step {
 }
 
 // A frame that a step takes.
-#[derive(Clone, Copy)]
+#[derive(Clone, Copy, PartialEq, Eq, Debug)]
 pub struct Choice {
     pub step: Step,
-    pub group: u8,
-    pub offset: Offset,
+    pub spot: Spot,
 }

@@ -2,7 +2,7 @@
 ghost use Rattle.std.specs.Prelude.{◌≡◌, true, false, ◌==◌};
 ghost use Rattle.words.specs.Layout.{bit};
 ghost use Rattle.words.specs.Points.{at};
-ghost use Rattle.reservation.specs.Groups.{is_open, is_reserved, is_spare, has_in, block_use, In, OutAt, Returned};
+ghost use Rattle.reservation.specs.Groups.{is_open, is_reserved, is_spare, has_in, turn_of, block_use, In, OutAt, Returned};
 
 use crate::group::{Group, Usage};
 use words::{Block, Offset};
@@ -23,42 +23,26 @@ impl Group {
     pub(crate) fn is_open(self) -> bool
         ensures { result ≡ is_open self }
     {
-        match self.usage {
-            Usage::Open => true,
-            Usage::Reserved(_) => false,
-            Usage::Broken => false,
-        }
+        matches!(self.usage, Usage::Open)
     }
 
     pub(crate) fn is_reserved(self) -> bool
         ensures { result ≡ is_reserved self }
     {
-        match self.usage {
-            Usage::Open => false,
-            Usage::Reserved(_) => true,
-            Usage::Broken => false,
-        }
+        matches!(self.usage, Usage::Reserved(_))
     }
 
     pub(crate) fn is_reserved_for(self, block: Block) -> bool
         ensures { result ≡ block_use block.number self.usage }
     {
-        match self.usage {
-            Usage::Open => false,
-            Usage::Reserved(own) => own.number == block.number,
-            Usage::Broken => false,
-        }
+        self.usage == Usage::Reserved(block)
     }
 
     // Whether any page can have a frame of the group.
     pub(crate) fn is_spare(self) -> bool
         ensures { result ≡ is_spare self }
     {
-        match self.usage {
-            Usage::Open => false,
-            Usage::Reserved(_) => false,
-            Usage::Broken => self.has_in(),
-        }
+        matches!(self.usage, Usage::Broken) && self.has_in()
     }
 
     pub(crate) fn has_in(self) -> bool
@@ -67,10 +51,17 @@ impl Group {
         self.out != 0xffff
     }
 
+    // Whether a reserved group waits for its turn to give a frame.
+    pub(crate) fn turn(self) -> Option<bool>
+        ensures { result ≡ turn_of self }
+    {
+        self.is_reserved().then_some(self.has_in())
+    }
+
     pub(crate) fn is_out(self, offset: Offset) -> bool
         ensures { result ≡ bit self.out offset.number }
     {
-        (self.out >> offset.number) % 2 == 1
+        offset.is_in(self.out)
     }
 
     // The lowest offset whose frame is in.

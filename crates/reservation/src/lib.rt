@@ -12,7 +12,9 @@ mod group;
 mod group_calls;
 mod reservation;
 mod reservation_allocator;
+mod spot;
 mod storing;
 
 pub use group::{Choice, Group, Step, Usage};
 pub use reservation::ReservationAllocator;
+pub use spot::Spot;

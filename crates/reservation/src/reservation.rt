@@ -1,5 +1,5 @@
 // 4,096 frames in 256 groups of sixteen.
-ghost use Rattle.std.specs.Prelude.{◌≡◌, ℕ, ◌%◌, ◌≤◌, true, length, ◌==◌};
+ghost use Rattle.std.specs.Prelude.{◌≡◌, ℕ, true, length, ◌==◌};
 ghost use Rattle.reservation.specs.Ages.{member, waits};
 ghost use Rattle.reservation.specs.Groups.{nth_group, is_open, is_reserved, is_spare, waits_in, bucket_use, same_block};
 ghost use Rattle.reservation.specs.Index.{in_bucket};
@@ -9,19 +9,18 @@ use crate::age_order::AgeOrder;
 use crate::bit_set::BitSet;
 use crate::block_index::BlockIndex;
 use crate::group::Group;
+use frames::Stock;
 
 // The groups say all there is but the order of reservation. The open groups, the broken ones with a frame in, and the reserved
 // ones by bucket are kept beside them, so that none has to be looked for group by group.
 #[derive(Drop)]
 pub struct ReservationAllocator {
-    pub(crate) first: u32,
+    pub(crate) stock: Stock,
     pub(crate) groups: [Group; 256],
     pub(crate) open_groups: BitSet<4>,
     pub(crate) spare_groups: BitSet<4>,
     pub(crate) index: BlockIndex,
     pub(crate) order: AgeOrder,
-    ghost low: { first ≤ 1048560 },
-    ghost whole: { first % 16 ≡ 0 },
     ghost all: { length groups ≡ 256 },
     // a group is open exactly when no frame of it is out
     ghost used: { (g : ℕ) → is_open (nth_group groups g) ≡ ((nth_group groups g).out == 0) },

@@ -8,8 +8,9 @@ use crate::bit_set::BitSet;
 use crate::block_index::BlockIndex;
 use crate::group::{Group, Usage};
 use crate::reservation::ReservationAllocator;
-use frames::{AllocateFault, FrameAllocator, FreeFault};
-use words::{Offset, Page};
+use crate::spot::Spot;
+use frames::{AllocateFault, FrameAllocator, FreeFault, Stock};
+use words::Page;
 
 impl ReservationAllocator {
     // The frames from 16 * group on, none out.
@@ -21,7 +22,7 @@ impl ReservationAllocator {
             out: 0,
         };
         ReservationAllocator {
-            first: u32::from(group) * 16,
+            stock: Stock::of_group(group),
             groups: [open; 256],
             open_groups: BitSet::full(),
             spare_groups: BitSet::empty(),
@@ -47,25 +48,17 @@ impl FrameAllocator for ReservationAllocator {
     ghost small = { Prim.search rules };
 
     fn allocate(&mut self, page: Page) -> Result<u32, AllocateFault> {
-        let Some(choice) = self.choose(page) else {
-            return Err(AllocateFault::AllOut);
-        };
+        let choice = self.choose(page).ok_or(AllocateFault::AllOut)?;
         Ok(self.take(page, choice))
     }
 
     fn free(&mut self, frame: u32) -> Result<(), FreeFault> {
-        if frame < self.first || frame - self.first >= 4096 {
+        let place = self.stock.place(frame).ok_or(FreeFault::NotOut)?;
+        let spot = Spot::from(place);
+        if !self.is_out(spot) {
             return Err(FreeFault::NotOut);
         }
-        let place = frame - self.first;
-        let group = (place / 16) as u8;
-        let offset = Offset {
-            number: (place % 16) as u8,
-        };
-        if !self.groups[group as usize].is_out(offset) {
-            return Err(FreeFault::NotOut);
-        }
-        self.bring_in(group, offset);
+        self.bring_in(spot);
         Ok(())
     }
 }

@@ -3,13 +3,13 @@ use Rattle.words.specs.Points.{at}
 use Rattle.reservation.specs.Ages.{put_last}
 use Rattle.reservation.proofs.age_order.AgeOrder.join.Goals as goal
 
-pub append-requires : goal.append-requires
-append-requires c = record { new = ap (λ f. f c.args.group) c.make_room.ensures.within ∙ c.requires; room = c.make_room.ensures.room }
+pub append-requires-clause-new : goal.append-requires-clause-new
+append-requires-clause-new c = ap (λ f. f c.args.group) c.make_room.ensures.same.within ∙ c.requires
 
 pub returns : goal.returns
 returns c =
     let g = c.args.group in
-    let m = c.make_room.ensures in
+    let m = c.make_room.ensures.same in
     let a = c.append.ensures in
     record {
       within = a.within ∙ ap (λ f. at f g true) m.within;

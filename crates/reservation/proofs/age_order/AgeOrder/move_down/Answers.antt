@@ -1,9 +1,10 @@
-use Rattle.std.proofs.Common.{◌≡◌, ℕ, Bool, false, get_or, set, refl, ap, ◌∙◌, arith}
+use Rattle.std.proofs.Common.{◌≡◌, ℕ, Bool, false, Some, get_or, length, set, ap, ◌∙◌, arith, length-set}
+use Rattle.std.specs.List.{refill}
+use Rattle.std.proofs.lemmas.Grind.{common_steps}
 use Rattle.words.specs.Points.{at}
 use Rattle.reservation.specs.Sets.{has}
-use Rattle.reservation.specs.Ages.{member}
-use Rattle.reservation.proofs.Ages.{placed_in, at_place}
-use Rattle.reservation.proofs.Places.{moved, moved_waits, moved_order, retell, waits_of}
+use Rattle.reservation.proofs.Ages.{moved_down, placed_in, at_place, item_at, all_placed, all_waits}
+use Rattle.reservation.proofs.Places.{longer}
 use Rattle.reservation.proofs.age_order.AgeOrder.move_down.Goals as goal
 
 -- the places that wait after both writes
@@ -15,29 +16,28 @@ invariant_of-self c =
     let s = c.args.self.now in
     let p = c.args.from in
     let t = c.args.to in
-    let (m, e) = at_place s p c.requires.here in
-    let f = (s.placed (get_or s.groups p 0) m).0 in
     let few = s.few in
+    let (m, e) = at_place s p c.requires.here in
+    let (l, h) = (placed_in s).placed (item_at s.groups.items p) m in
     let d = c.requires.down in
-    let q = retell _ (member s) _ (has c.put-2.new.self) _ _ _ refl
-    (both_put (has s.waiting) (has c.put.new.self) _ p t c.has-wait.result c.has-wait.ensures c.put.ensures c.put-2.ensures)
-    (moved (member s) (has s.waiting) s.places s.groups s.used (placed_in s) (get_or s.groups p 0) p t m e d c.requires.gap (omega arith) (omega arith)) in
-    record { few = s.few; placed = q.placed; waits = q.waits }
+    let xs = set c.deref_mut.result.now t (get_or c.deref.result.now p 0) in
+    let same : refill (length s.groups.items) s.groups.items xs ≡ set s.groups.items t (item_at s.groups.items p) = grind (arith, common_steps) in
+    let (q, within, order, waiting) = moved_down s p t (set s.places c.from.result (Some t)) (has c.put-2.new.self) _
+    c.requires.here d c.requires.gap (omega arith) (cc) (both_put (has s.waiting) (has c.put.new.self) _ p t c.has-wait.result c.has-wait.ensures c.put.ensures c.put-2.ensures) same in
+    let long = ap length same ∙ length-set s.groups.items t (item_at s.groups.items p) in
+    record { few = omega arith; placed = all_placed _ _ _ _ (longer _ _ _ _ _ _ long q); waits = all_waits _ _ _ _ q }
 
-pub returns : goal.returns
-returns c =
+pub returns-clause-same : goal.returns-clause-same
+returns-clause-same c =
     let s = c.args.self.now in
     let p = c.args.from in
     let t = c.args.to in
-    let (m, e) = at_place s p c.requires.here in
-    let f = (s.placed (get_or s.groups p 0) m).0 in
     let few = s.few in
+    let (m, e) = at_place s p c.requires.here in
+    let (l, h) = (placed_in s).placed (item_at s.groups.items p) m in
     let d = c.requires.down in
-    record {
-      within = refl;
-      order = moved_order (member s) (has s.waiting) s.places s.groups s.used (placed_in s) (get_or s.groups p 0) p t m e d c.requires.gap (omega arith) (omega arith);
-      waiting = ap (λ x. waits_of (member s) x (set s.places (get_or s.groups p 0) t)) (both_put (has s.waiting) (has c.put.new.self) _ p t c.has-wait.result c.has-wait.ensures c.put.ensures c.put-2.ensures)
-          ∙ moved_waits (member s) (has s.waiting) s.places s.groups s.used (placed_in s) (get_or s.groups p 0) p t m e d c.requires.gap (omega arith) (omega arith);
-      moved = refl;
-      wide = (omega arith, omega arith);
-    }
+    let xs = set c.deref_mut.result.now t (get_or c.deref.result.now p 0) in
+    let same : refill (length s.groups.items) s.groups.items xs ≡ set s.groups.items t (item_at s.groups.items p) = grind (arith, common_steps) in
+    let (q, within, order, waiting) = moved_down s p t (set s.places c.from.result (Some t)) (has c.put-2.new.self) _
+    c.requires.here d c.requires.gap (omega arith) (cc) (both_put (has s.waiting) (has c.put.new.self) _ p t c.has-wait.result c.has-wait.ensures c.put.ensures c.put-2.ensures) same in
+    record { within = within; order = order; waiting = waiting }

@@ -1,24 +1,25 @@
-use Rattle.std.proofs.Common.{sym, ap, ◌∙◌, arith}
-use Rattle.std.proofs.lemmas.Bool.{both_ways}
-use Rattle.words.specs.Layout.{bit}
-use Rattle.words.proofs.Flip.{no_bit}
+use Rattle.std.proofs.Common.{◌≡◌, sym, ap, ◌∙◌, true}
+use Rattle.std.proofs.lemmas.Bool.{both_ways, not-false, not-true}
+use Rattle.words.specs.Layout.{bit, block_of, offset_of}
 use Rattle.reservation.specs.Groups.{block_use}
-use Rattle.reservation.specs.Reservation.{group_of}
+use Rattle.reservation.specs.Reservation.{group_of, Unplaced, Chosen}
+use Rattle.reservation.proofs.Usages.{by_test}
 use Rattle.reservation.proofs.reservation.ReservationAllocator.choose_placed.Goals as goal
 
-pub returns-in_default-lowest_open : goal.returns-in_default-lowest_open
-returns-in_default-lowest_open c =
+-- the block's group gives the frame at the page's offset, or has it out
+pub returns-in-Some : goal.returns-in-Some
+returns-in-Some c =
     let s = c.args.self.now in
-    record {
-      kept = λ g h. absurd (both_ways _ (ap (λ b. block_use b (group_of s g).usage) (sym c.block.ensures) ∙ c.in_default.ensures g) h);
-      reserves = λ none. c.in_default-lowest_open.ensures.first;
-    }
-
-pub returns : goal.returns
-returns c =
-    let s = c.args.self.now in
-    let f = c.in-Some-lowest_open.ensures in
-    record {
-      rule = ((λ g. ap (λ b. block_use b (group_of s g).usage) (sym c.block.ensures) ∙ c.in_default.ensures g), f.first, c.offset-offset.ensures);
-      within = (omega arith, ap (λ w. bit w c.offset-offset.result.number) f.whole ∙ no_bit c.offset-offset.result.number);
-    }
+    let p = c.args.page.number in
+    let only = c.in-Some.ensures in
+    let here : block_use (block_of p) (group_of s c.in-Some.group).usage ≡ true = ap (λ b. block_use b (group_of s c.in-Some.group).usage) (sym c.block.ensures) ∙ only.here in
+    by_test c.then_some.result _ _ (Unplaced s p) (Chosen s p) c.then_some.ensures
+    (λ out. record {
+      kept = λ g h. ap (λ x. bit (group_of s x).out (offset_of p)) (only.only g (ap (λ b. block_use b (group_of s g).usage) c.block.ensures ∙ h))
+          ∙ ap (bit (group_of s c.in-Some.group).out) (sym c.offset-offset.ensures) ∙ sym c.is_out.ensures ∙ not-false _ out;
+      reserves = λ none. absurd (both_ways _ (none c.in-Some.group) here);
+    })
+    (λ inside. record {
+      rule = (here, c.offset-offset.ensures);
+      within = (c.offset-offset.result.within, sym c.is_out.ensures ∙ not-true _ inside);
+    })

@@ -1,14 +1,25 @@
-use Rattle.std.proofs.Common.{arith}
-use Rattle.reservation.proofs.Grouped.{only_for, none_below, none_at_all}
+use Rattle.std.proofs.Common.{◌≡◌, ℕ, Option, None, Some, sym, refl, ◌∙◌, subst, rules, tests, arith}
+use Rattle.std.specs.List.{find}
+use Rattle.std.specs.Option.{option_map}
+use Rattle.std.proofs.lemmas.Iterator.Consumers.{YieldsList-from_first}
+use Rattle.std.proofs.lemmas.Iterator.Search.{find_from_yields_List}
+use Rattle.reservation.specs.Groups.{block_use}
+use Rattle.reservation.specs.Index.{groups_left}
+use Rattle.reservation.specs.Reservation.{group_of}
+use Rattle.reservation.specs.Sets.{has}
+use Rattle.reservation.proofs.Grouped.{searched}
+use Rattle.reservation.proofs.Members.{Tells, found}
 use Rattle.reservation.proofs.reservation.ReservationAllocator.group_for.Goals as goal
 
-pub returns-then-is_reserved_for : goal.returns-then-is_reserved_for
-returns-then-is_reserved_for c = only_for c.args.self.now c.args.block.number c.in-Some.group _ c.in-Some.ensures.within c.if-is_reserved_for.ensures
-
-pub loop-group-preserved : goal.loop-group-preserved
-loop-group-preserved c =
-    let l = c.in-Some.ensures.within in
-    (omega arith, none_below c.args.self.now c.args.block.number c.loop-group.from c.in-Some.group _ c.loop-group.invariant.1 l c.in-Some.ensures.first c.if-is_reserved_for.ensures)
+-- an item that is shown as it is
+same_option : (o : Option ℕ) → option_map (λ x. x) o ≡ o
+same_option None = refl
+same_option (Some x) = refl
 
 pub returns : goal.returns
-returns c = none_at_all c.args.self.now c.args.block.number c.loop-group.from c.loop-group.invariant.1 c.in_default.ensures.first
+returns c =
+    let s = c.args.self.now in
+    let test = λ (g : ℕ). block_use c.args.block.number (group_of s g).usage in
+    let by_call = find_from_yields_List test c.find.new.self _ c.find.result c.find.ensures.ran (YieldsList-from_first (λ x. x) groups_left _ refl) (λ x b q k. search (rules, tests)) in
+    let same : c.find.result ≡ find test (groups_left c.groups.result) = sym (same_option c.find.result) ∙ by_call in
+    searched s c.args.block.number (has c.groups.result.left) c.find.result c.groups.ensures (subst (Tells _ _ 0 256) (sym same) (found (has c.groups.result.left) test 0 256 256 (omega arith)))
