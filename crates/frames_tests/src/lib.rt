@@ -43,4 +43,10 @@ mod tests {
         assert_eq!(rt; frames.allocate(page()), Ok(5000));
         assert_eq!(rt; frames.allocate(page()), Err(AllocateFault::AllOut));
     }
+
+    #[test]
+    fn refusals_have_numbers(rt: HostRuntime) {
+        assert_eq!(rt; u64::from(AllocateFault::AllOut), 4);
+        assert_eq!(rt; u64::from(FreeFault::NotOut), 12);
+    }
 }

@@ -1,4 +1,4 @@
-use Rattle.std.proofs.Common.{◌≡◌, true, false, eqb, ltb, replicate, sym, refl, ◌∙◌}
+use Rattle.std.proofs.Common.{◌≡◌, true, false, eqb, ltb, replicate, sym, refl, ◌∙◌, arith}
 use lib.ListN.{length-replicate}
 use Rattle.std.proofs.lemmas.Bool.{both_ways, lt-ltb, le-ltb, and_left}
 use Rattle.reservation.specs.Ages.{member, waits}
@@ -14,7 +14,7 @@ invariant_of-result c =
 
 pub returns : goal.returns
 returns c = record {
-  first = c.of_group.ensures;
+  first = omega arith;
   vacant = fresh (λ k x. is_open x ≡ ltb k 256) (λ k l. sym (lt-ltb k 256 l)) (λ k l. sym (le-ltb k 256 l));
   none = new_in _;
 }
