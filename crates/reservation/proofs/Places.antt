@@ -105,12 +105,6 @@ module _ (M W : ℕ → Bool) (F G : ℕ → ℕ) (n : ℕ) (S : Placed M W F G 
             and_from (M g && M h) _ (and_from (M g) (M h) m' i) (lt-ltb _ _ l),
       )
 
-  pub none_waits : ((p : ℕ) → W p ≡ false) → (g : ℕ) → waits_of M W F g ≡ false
-  none_waits none g = ap (λ b. M g && b) (none (F g)) ∙ and_false (M g)
-
-  pub waiting_place : (p : ℕ) → W p ≡ true → p < n
-  waiting_place p w = let (m, f) = S.waits p w in let (l, e) = S.placed (G p) m in omega arith
-
   -- the group g joins at the place n
   module _ (g : ℕ) (w : Bool) (new : M g ≡ false) where
     not_new : (k : ℕ) → M k ≡ true → k ≡ g → ⊥

@@ -10,7 +10,7 @@ use Rattle.std.proofs.lemmas.Bool.{cases_eq, cases_lt, both_ways, eq-eqb, ne_eqb
 use Rattle.words.specs.Layout.{bit}
 use Rattle.words.specs.Points.{at}
 use Rattle.words.proofs.Flip.{no_bit, one_bit, complement_bit, cleared_bit, joined_bit}
-use Rattle.reservation.specs.Sets.{in_words, NoneFrom, FirstFrom}
+use Rattle.reservation.specs.Sets.{in_words, FirstFrom}
 
 half_bit : (w j : ℕ) → bit w (suc j) ≡ bit (w / 2) j
 half_bit w j = ap (λ x. eqb (x % 2) 1) (ap (λ k. w / 2 ^ k) (omega arith) ∙ sym (shr-shr w 1 j))
@@ -78,13 +78,6 @@ put_word ws k v on l e = fun_ext (λ j.
     (cases_eq (j / 64) (k / 64)))
 
 -- the first number of a set is in the first word that is not zero
-pub past_words : (ws : List ℕ) (a : ℕ) → length ws ≤ a / 64 → NoneFrom (in_words ws) a
-past_words ws a l k h = ap (λ x. bit x (k % 64)) (get_or_past ws (k / 64) 0 (omega arith)) ∙ no_bit (k % 64)
-
--- a number that is in has a word
-pub in_words_below : (ws : List ℕ) (k : ℕ) → in_words ws k ≡ true → k < 64 * length ws
-in_words_below ws k h = ⊎_elim (λ l. l) (λ l. absurd (both_ways _ (past_words ws k (omega arith) k (omega arith)) h)) (cases_lt k (64 * length ws))
-
 at_word : (ws : List ℕ) (i j : ℕ) → j / 64 ≡ i → in_words ws j ≡ bit (get_or ws i 0) (j % 64)
 at_word ws i j e = ap (λ x. bit (get_or ws x 0) (j % 64)) e
 

@@ -22,10 +22,7 @@ impl ReservationAllocator {
     pub(crate) fn choose(&self, page: Page) -> Option<Choice>
         ensures { MatchOption result (NoneIn self.now) (λ c. Chosen self.now page.number c) }
     {
-        if let Some(choice) = self.choose_placed(page) {
-            return Some(choice);
-        }
-        self.choose_any(page)
+        self.choose_placed(page).or_else(|| self.choose_any(page))
     }
 
     // The frame at the page's offset, in the group that is reserved for its block or that can be.

@@ -20,7 +20,7 @@ pub struct Group {
     pub out: u16,
 }
 
-// How a frame is found for a page, by the steps in their order.
+// How a frame is found for a page, by the steps in their order. A choice names its step, since the rules and the laws speak of it.
 #[derive(Clone, Copy, PartialEq, Eq, Debug)]
 pub enum Step {
     // The frame at the page's offset in the group reserved for its block.

@@ -7,7 +7,7 @@ ghost use Rattle.reservation.specs.Groups.{is_open, is_reserved, is_spare, has_i
 use crate::group::{Group, Usage};
 use words::{Block, Offset};
 
-// The bits with that of one offset set or cleared.
+// The bits with that of one offset set or cleared. Apart from `with_bit`: through 64 bits it would be a cast and a bound more, and no plainer.
 fn with_offset(bits: u16, offset: Offset, on: bool) -> u16
     ensures each { bit result ≡ at (bit bits) offset.number on }
     ensures some { on ≡ true → (result == 0) ≡ false }
