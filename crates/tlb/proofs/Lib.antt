@@ -1,5 +1,4 @@
 pub mod Rows
 pub mod Upto
-pub mod OnePages
-pub mod Partials
 pub mod Levels
+pub mod Found

@@ -10,9 +10,9 @@ use Rattle.words.specs.Layout.{bit, block_of, offset_of, offsets_in, frame_block
 use Rattle.words.specs.Reading.{translation, said}
 use Rattle.words.proofs.Flip.{one_bit}
 use Rattle.tlb.specs.declared.partial_slot.PartialSlot.{PartialSlot}
-use Rattle.tlb.specs.declared.partial_slot.PartialSlot.TheVariants.{Empty, Subblock, Single}
+use Rattle.tlb.specs.declared.partial_slot.PartialSlot.TheVariants.{Subblock, Single}
 use Rattle.tlb.specs.PartialSlots.{block_held, overlaps, Loses, Cleared, block_dropped}
-use Rattle.tlb.specs.Slots.{without_page}
+use Rattle.tlb.specs.Slots.{in_slot, Becomes, without_page}
 
 -- the pages of the block b at the offsets whose bits os has
 abbrev pub names : ℕ → ℕ → ℕ → Bool
@@ -34,7 +34,6 @@ none_either false = refl
 
 -- a slot that does not overlap holds none of the pages
 untouched : (b os : ℕ) (s : PartialSlot) (q : ℕ) → overlaps b os s ≡ false → names b os q ≡ true → block_held s q ≡ None
-untouched b os Empty q f n = refl
 untouched b os (Subblock c w) q f n =
     let (i, j) = and_parts (block_of q == b) (bit os (offset_of q)) n in
     ⊎_elim
@@ -84,31 +83,35 @@ module _ (b os c w q : ℕ) (same : c ≡ b) where
       each x false true = refl
       each x false false = refl
 
-lost : (b os : ℕ) (s u : PartialSlot) (q : ℕ) → overlaps b os s ≡ true → Loses os s u → block_held u q ≡ cond (names b os q) None (block_held s q)
-lost b os Empty u q o l = absurd (both_ways false refl o)
-lost b os (Subblock c w) Empty q o l = emptied b os c.number w.bits q (eqb-true c.number b (and_parts (c.number == b) _ o).0) l
-lost b os (Subblock c w) (Subblock d v) q o (e, l) = shrunk b os c.number w.bits q (eqb-true c.number b (and_parts (c.number == b) _ o).0) d.number v.bits e l
-lost b os (Subblock c w) (Single p t) q o l = absurd l
+lost : (b os : ℕ) (s : PartialSlot) (u : Option PartialSlot) (q : ℕ) → overlaps b os s ≡ true → Loses os s u → in_slot block_held u q ≡ cond (names b os q) None (block_held s q)
+lost b os (Subblock c w) None q o l = emptied b os c.number w.bits q (eqb-true c.number b (and_parts (c.number == b) _ o).0) l
+lost b os (Subblock c w) (Some (Subblock d v)) q o (e, l) = shrunk b os c.number w.bits q (eqb-true c.number b (and_parts (c.number == b) _ o).0) d.number v.bits e l
+lost b os (Subblock c w) (Some (Single p t)) q o l = absurd l
 lost b os (Single p t) u q o l =
     let (i, j) = and_parts (block_of p.number == b) (bit os (offset_of p.number)) o in
-    ap (λ x. block_held x q) (l ∙ cond-true _ _ _ j)
+    ap (λ x. in_slot block_held x q) (l ∙ cond-true _ _ _ j)
     ∙ ⊎_elim
     (λ e. sym (ap (λ x. cond x None (block_held (Single p t) q)) (sym (ap (names b os) (eqb-true p.number q e)) ∙ o)))
     (λ e. sym (ap (λ y. cond (names b os q) None y) (cond-false (p.number == q) _ _ e) ∙ none_either (names b os q)))
     (cases_Bool (p.number == q))
 
 -- the pages that are named are gone, and all others are as they were
-pub cleared : (b os : ℕ) (s u : PartialSlot) → Cleared b os s u → (q : ℕ) → block_held u q ≡ cond (names b os q) None (block_held s q)
+cleared : (b os : ℕ) (s : PartialSlot) (u : Option PartialSlot) → Cleared b os s u → (q : ℕ) → in_slot block_held u q ≡ cond (names b os q) None (block_held s q)
 cleared b os s u c q = each (overlaps b os s) refl c
   where
-    each : (o : Bool) → overlaps b os s ≡ o → MatchBool o (Loses os s u) (u ≡ s) → block_held u q ≡ cond (names b os q) None (block_held s q)
+    each : (o : Bool) → overlaps b os s ≡ o → MatchBool o (Loses os s u) (u ≡ Some s) → in_slot block_held u q ≡ cond (names b os q) None (block_held s q)
     each true e l = lost b os s u q e l
     each false e l =
-        ap (λ x. block_held x q) l
+        ap (λ x. in_slot block_held x q) l
         ∙ ⊎_elim
         (λ n. untouched b os s q e n ∙ sym (cond-true _ _ _ n))
         (λ n. sym (cond-false _ _ _ n))
         (cases_Bool (names b os q))
+
+-- the same of a slot of a row, which may be empty
+pub slot_cleared : (b os : ℕ) (o u : Option PartialSlot) → Becomes (Cleared b os) o u → (q : ℕ) → in_slot block_held u q ≡ cond (names b os q) None (in_slot block_held o q)
+slot_cleared b os None u e q = ap (λ x. in_slot block_held x q) e ∙ sym (none_either (names b os q))
+slot_cleared b os (Some s) u c q = cleared b os s u c q
 
 -- one page is the page at its offset in its block
 pub one_page : (p q : ℕ) → names (block_of p) (2 ^ offset_of p) q ≡ (q == p)
@@ -123,5 +126,5 @@ one_page p q =
     (cases_Bool (block_of q == block_of p && offset_of q == offset_of p)))
     (cases_Bool (q == p))
 
-pub drops : (s : PartialSlot) (p : ℕ) (u : PartialSlot) → block_dropped s p u → (q : ℕ) → block_held u q ≡ without_page (block_held s) p q
+pub drops : (s : PartialSlot) (p : ℕ) (u : Option PartialSlot) → block_dropped s p u → (q : ℕ) → in_slot block_held u q ≡ without_page (block_held s) p q
 drops s p u d q = cleared (block_of p) (2 ^ offset_of p) s u d q ∙ ap (λ x. cond x None (block_held s q)) (one_page p q)

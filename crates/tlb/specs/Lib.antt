@@ -1,9 +1,11 @@
 pub mod Entries
 pub mod Meaning
 pub mod Slots
-pub mod OnePageSlots
-pub mod OnePage
+pub mod PageSlots
+pub mod RowLaws
+pub mod PageLaws
 pub mod PartialSlots
-pub mod Partial
-pub mod TwoLevel
 pub mod Clearing
+pub mod PartialLaws
+pub mod Slotted
+pub mod TwoLevel

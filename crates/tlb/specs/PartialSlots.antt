@@ -1,5 +1,5 @@
 -- What a slot for pages of one block holds, and what it loses.
-use Rattle.std.specs.Prelude.{◌≡◌, ℕ, ◌^◌, Bool, false, cond, not, ◌&&◌, Some, None, MatchBool, Option, ◌==◌, bit_and}
+use Rattle.std.specs.Prelude.{◌≡◌, ℕ, ◌^◌, Bool, false, cond, not, ◌&&◌, Some, None, MatchBool, Option, List, ◌==◌, bit_and}
 use Rattle.words.specs.declared.translation.Translation.{Translation}
 use Rattle.words.specs.declared.form.Form.TheVariants as form
 use Rattle.words.specs.declared.word.Word.TheVariants as word
@@ -8,40 +8,42 @@ use Rattle.words.specs.Reading.{said}
 use Rattle.words.specs.Words.{form_of}
 use Rattle.tlb.specs.declared.entry.Entry.{Entry}
 use Rattle.tlb.specs.declared.partial_slot.PartialSlot.{PartialSlot}
-use Rattle.tlb.specs.declared.partial_slot.PartialSlot.TheVariants.{Empty, Subblock, Single}
+use Rattle.tlb.specs.declared.partial_slot.PartialSlot.TheVariants.{Subblock, Single}
+use Rattle.tlb.specs.Entries.{entry_offsets}
+use Rattle.tlb.specs.Slots.{Each, Becomes}
 
 abbrev pub block_held : PartialSlot → ℕ → Option Translation
-block_held Empty q = None
 block_held (Subblock b w) q = cond (b.number == block_of q) (said form.Compact w.bits (offset_of q)) None
 block_held (Single p t) q = cond (p.number == q) (Some t) None
 
 -- the slot is of the block b and has an offset whose bit os has
 abbrev pub overlaps : ℕ → ℕ → PartialSlot → Bool
-overlaps b os Empty = false
 overlaps b os (Subblock c w) = c.number == b && not (bit_and (offsets_in w.bits) os == 0)
 overlaps b os (Single p t) = block_of p.number == b && bit os (offset_of p.number)
 
--- a subblock after some offsets are cleared: the others are left, and where there are none it is empty
-abbrev pub Left : ℕ → ℕ → ℕ → PartialSlot → Type 0
-Left b w os Empty = (k : ℕ) → minus w os k ≡ false
-Left b w os (Subblock c v) = (c.number ≡ b) × Offsets w (minus w os) v.bits
-Left b w os (Single p t) = ⊥
+-- a subblock after some offsets are cleared: the others are left, and where there are none the slot is empty
+abbrev pub Left : ℕ → ℕ → ℕ → Option PartialSlot → Type 0
+Left b w os None = (k : ℕ) → minus w os k ≡ false
+Left b w os (Some (Subblock c v)) = (c.number ≡ b) × Offsets w (minus w os) v.bits
+Left b w os (Some (Single p t)) = ⊥
 
 -- the slot before and after the offsets whose bits os has are cleared
-abbrev pub Loses : ℕ → PartialSlot → PartialSlot → Type 0
-Loses os Empty u = u ≡ Empty
+abbrev pub Loses : ℕ → PartialSlot → Option PartialSlot → Type 0
 Loses os (Subblock b w) u = Left b.number w.bits os u
-Loses os (Single p t) u = u ≡ cond (bit os (offset_of p.number)) Empty (Single p t)
+Loses os (Single p t) u = u ≡ cond (bit os (offset_of p.number)) None (Some (Single p t))
 
 -- the slot before and after the offsets whose bits os has are cleared in every slot of the block b
-abbrev pub Cleared : ℕ → ℕ → PartialSlot → PartialSlot → Type 0
-Cleared b os s u = MatchBool (overlaps b os s) (Loses os s u) (u ≡ s)
+abbrev pub Cleared : ℕ → ℕ → PartialSlot → Option PartialSlot → Type 0
+Cleared b os s u = MatchBool (overlaps b os s) (Loses os s u) (u ≡ Some s)
 
-abbrev pub block_dropped : PartialSlot → ℕ → PartialSlot → Type 0
+abbrev pub block_dropped : PartialSlot → ℕ → Option PartialSlot → Type 0
 block_dropped s p u = Cleared (block_of p) (2 ^ offset_of p) s u
 
 -- the slot of an entry that says t of the page p: a compact word becomes a subblock, a full word a single page
 abbrev pub IsSlot : Entry → ℕ → Translation → PartialSlot → Type 0
-IsSlot e p t Empty = ⊥
 IsSlot e p t (Subblock b w) = (b.number ≡ block_of e.page.number) × (e.word ≡ word.Compact w)
 IsSlot e p t (Single q u) = (form_of e.word ≡ form.Full) × (q.number ≡ p) × (u ≡ t)
+
+-- the entry's offsets were cleared in every slot of its block, and its new slot goes anywhere
+abbrev pub BlockRoom : List (Option PartialSlot) → Entry → Option ℕ → List (Option PartialSlot) → Type 0
+BlockRoom xs e at ys = (at ≡ None) × Each (Becomes (Cleared (block_of e.page.number) (entry_offsets e))) xs ys

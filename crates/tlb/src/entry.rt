@@ -16,8 +16,8 @@ impl Entry {
         ensures { result ≡ entry_says self page.number }
     {
         let near = match self.word {
-            Word::Compact(_) => page.block().number == self.page.block().number,
-            Word::Full(_) => page.number == self.page.number,
+            Word::Compact(_) => page.block() == self.page.block(),
+            Word::Full(_) => page == self.page,
         };
         if near {
             self.word.read(page.offset())

@@ -2,25 +2,24 @@
 #![tactic(auto)]
 
 mod entry;
+mod fill;
 mod hand;
-mod one_page;
-mod one_page_slot;
-mod one_page_tlb;
-mod partial;
+mod page_slot;
 mod partial_slot;
-mod partial_tlb;
 mod search;
 mod slot;
+mod slot_tlb;
+mod slotted;
 mod tlb;
 mod two_level;
 
 pub use entry::Entry;
+pub use fill::Fill;
 pub use hand::Hand;
-pub use one_page::OnePageTlb;
-pub use one_page_slot::OnePageSlot;
-pub use partial::PartialSubblockTlb;
+pub use page_slot::PageSlot;
 pub use partial_slot::PartialSlot;
 pub use search::{find, place, purge};
 pub use slot::Slot;
+pub use slot_tlb::{OnePageTlb, PartialSubblockTlb, SlotTlb};
 pub use tlb::Tlb;
 pub use two_level::TwoLevelTlb;

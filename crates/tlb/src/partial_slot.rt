@@ -1,18 +1,19 @@
 // A slot for pages of one block.
 ghost use Rattle.std.specs.Prelude.{◌≡◌};
-ghost use Rattle.words.specs.Layout.{bit};
-ghost use Rattle.tlb.specs.PartialSlots.{block_held, block_dropped, overlaps, Loses, IsSlot};
+ghost use Rattle.tlb.specs.PartialSlots.{block_held, block_dropped, overlaps, Loses, Cleared, IsSlot, BlockRoom};
+ghost use Rattle.tlb.specs.Slots.{Each, Becomes};
 ghost use Rattle.tlb.specs.Clearing;
+ghost use Rattle.tlb.specs.PartialLaws;
 
 use crate::entry::Entry;
+use crate::fill::Fill;
 use crate::slot::Slot;
-use words::{Block, CompactWord, Offset, Page, Translation, Word};
+use words::{Block, CompactWord, Page, Translation, Word};
 
 // A subblock is some pages of a block, properly placed in one frame block with equal attributes, as a compact word has them;
 // a single page may be on any frame.
 #[derive(Clone, Copy)]
 pub enum PartialSlot {
-    Empty,
     Subblock {
         block: Block,
         word: CompactWord,
@@ -23,59 +24,51 @@ pub enum PartialSlot {
     },
 }
 
-// Whether the bit of an offset is set.
-fn has(offsets: u16, offset: Offset) -> bool
-    ensures { result ≡ bit offsets offset.number }
-{
-    (offsets >> offset.number) % 2 == 1
-}
-
 impl PartialSlot {
-    // The slot for an entry that has this translation of the page.
-    pub(crate) fn of_entry(entry: Entry, page: Page, translation: Translation) -> PartialSlot
-        ensures { IsSlot entry page.number translation result }
-    {
-        match entry.word {
-            Word::Compact(word) => PartialSlot::Subblock {
-                block: entry.page.block(),
-                word,
-            },
-            Word::Full(_) => PartialSlot::Single { page, translation },
-        }
-    }
-
     // Whether the slot is of the block and holds a page at one of the offsets whose bits are set.
-    pub(crate) fn overlaps(&self, block: Block, offsets: u16) -> bool
+    fn overlaps(&self, block: Block, offsets: u16) -> bool
         ensures { result ≡ overlaps block.number offsets self.now }
     {
         match *self {
-            PartialSlot::Empty => false,
-            PartialSlot::Subblock { block: own, word } => own.number == block.number
+            PartialSlot::Subblock { block: own, word } => own == block
                 && word.offsets() & offsets != 0,
-            PartialSlot::Single { page, .. } => page.block().number == block.number
-                && has(offsets, page.offset()),
+            PartialSlot::Single { page, .. } => page.block() == block
+                && page.offset().is_in(offsets),
         }
     }
 
-    // Clears the offsets whose bits are set; a slot without offsets becomes empty.
-    pub(crate) fn clear(&mut self, offsets: u16)
-        ensures { Loses offsets self.old self.new }
+    // The slot without the block's pages at the offsets whose bits are set; none where no page is left.
+    fn cleared(self, block: Block, offsets: u16) -> Option<PartialSlot>
+        ensures { Cleared block.number offsets self result }
     {
-        let slot = *self;
-        match slot {
-            PartialSlot::Empty => {}
-            PartialSlot::Subblock { block, word } => {
-                *self = match word.without_all(offsets) {
-                    Some(word) => PartialSlot::Subblock { block, word },
-                    None => PartialSlot::Empty,
-                };
-            }
-            PartialSlot::Single { page, .. } => {
-                if has(offsets, page.offset()) {
-                    *self = PartialSlot::Empty;
-                }
-            }
+        if self.overlaps(block, offsets) {
+            self.without_all(offsets)
+        } else {
+            Some(self)
         }
+    }
+
+    // The slot without the offsets whose bits are set.
+    fn without_all(self, offsets: u16) -> Option<PartialSlot>
+        ensures { Loses offsets self result }
+    {
+        match self {
+            PartialSlot::Subblock { block, word } => {
+                let word = word.without_all(offsets)?;
+                Some(PartialSlot::Subblock { block, word })
+            }
+            PartialSlot::Single { page, .. } if page.offset().is_in(offsets) => None,
+            PartialSlot::Single { .. } => Some(self),
+        }
+    }
+}
+
+// Clears the block's pages at the offsets whose bits are set.
+fn clear(slots: &mut [Option<PartialSlot>], block: Block, offsets: u16)
+    ensures { Each (Becomes (Cleared block.number offsets)) slots.old slots.new }
+{
+    for slot in slots.iter_mut() {
+        *slot = slot.and_then(|held| held.cleared(block, offsets));
     }
 }
 
@@ -88,20 +81,47 @@ impl Slot for PartialSlot {
 
     fn answer(&self, page: Page) -> Option<Translation> {
         match *self {
-            PartialSlot::Subblock { block, word } if block.number == page.block().number =>
-                word.read(page.offset()),
+            PartialSlot::Subblock { block, word } => {
+                if block == page.block() {
+                    word.read(page.offset())
+                } else {
+                    None
+                }
+            }
             PartialSlot::Single {
                 page: own,
                 translation,
-            } if own.number == page.number => Some(translation),
-            _ => None,
+            } => (own == page).then_some(translation),
         }
     }
 
-    fn drop_page(&mut self, page: Page) {
-        let offsets = page.offset().bit();
-        if self.overlaps(page.block(), offsets) {
-            self.clear(offsets);
+    fn without(self, page: Page) -> Option<PartialSlot> {
+        self.cleared(page.block(), page.offset().bit())
+    }
+}
+
+impl Fill for PartialSlot {
+    ghost made = { IsSlot };
+
+    ghost room = { λ xs e p. BlockRoom xs e };
+
+    ghost says = { PartialLaws.says_entry };
+
+    ghost frees = { PartialLaws.frees };
+
+    fn of_entry(entry: Entry, page: Page, translation: Translation) -> PartialSlot {
+        match entry.word {
+            Word::Compact(word) => PartialSlot::Subblock {
+                block: entry.page.block(),
+                word,
+            },
+            Word::Full(_) => PartialSlot::Single { page, translation },
         }
+    }
+
+    // The entry's pages are cleared in every slot of its block.
+    fn make_room(slots: &mut [Option<PartialSlot>], entry: Entry, _: Page) -> Option<usize> {
+        clear(slots, entry.page.block(), entry.offsets());
+        None
     }
 }

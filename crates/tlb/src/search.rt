@@ -1,39 +1,36 @@
 // Probing and purging, over lent slots of any kind.
-ghost use Rattle.std.specs.Prelude.{◌≡◌, ℕ, ◌<◌, length, IfSome};
-ghost use Rattle.tlb.specs.Slots.{first_place, first_held, without_page, Each};
+ghost use Rattle.std.specs.Prelude.{◌≡◌, ℕ, ◌<◌, ◌≤◌, length, IfSome};
+ghost use Rattle.tlb.specs.Meaning.{HasPair, Within, Answers};
+ghost use Rattle.tlb.specs.Slots.{in_slot, Holds, holders, first_place, first_held, without_page, Each, Becomes};
 
 use crate::slot::Slot;
 use words::{Page, Translation};
 
 // The first slot that holds the page.
-pub fn place<S: Slot>(slots: &[S], page: Page) -> Option<usize>
-    ensures first { result ≡ first_place S.held slots.now page.number }
+pub fn place<S: Slot>(slots: &[Option<S>], page: Page) -> Option<usize>
+    ensures first { result ≡ first_place (in_slot S.held) slots.now page.number }
     ensures within { IfSome result (λ k. k < length slots.now) }
 {
-    for (i, slot) in slots.iter().enumerate() {
-        if slot.answer(page).is_some() {
-            return Some(i);
-        }
-    }
-    None
+    slots.iter().position(|slot| slot.as_ref().and_then(|held| held.answer(page)).is_some())
 }
 
 // What the first slot that holds the page has for it.
-pub fn find<S: Slot>(slots: &[S], page: Page) -> Option<Translation>
-    ensures { result ≡ first_held S.held slots.now page.number }
+pub fn find<S: Slot>(slots: &[Option<S>], page: Page) -> Option<Translation>
+    ensures first { result ≡ first_held (in_slot S.held) slots.now page.number }
+    ensures answer { Answers (Holds (in_slot S.held)) slots.now page.number result slots.now }
 {
-    let Some(at) = place(slots, page) else {
-        return None;
-    };
-    slots[at].answer(page)
+    slots.iter().find_map(|slot| slot.as_ref()?.answer(page))
 }
 
 // Drops the page from every slot.
-pub fn purge<S: Slot>(slots: &mut [S], page: Page)
-    ensures exact { Each (λ s u. S.dropped s page.number u) slots.old slots.new }
-    ensures pages { Each (λ s u. (q : ℕ) → S.held u q ≡ without_page (S.held s) page.number q) slots.old slots.new }
+pub fn purge<S: Slot>(slots: &mut [Option<S>], page: Page)
+    ensures exact { Each (Becomes (λ s u. S.dropped s page.number u)) slots.old slots.new }
+    ensures pages { Each (λ s u. (q : ℕ) → in_slot S.held u q ≡ without_page (in_slot S.held s) page.number q) slots.old slots.new }
+    ensures gone { HasPair (Holds (in_slot S.held)) slots.new page.number → ⊥ }
+    ensures within { Within (Holds (in_slot S.held)) slots.old slots.new }
+    ensures fewer { (q : ℕ) → holders (in_slot S.held) slots.new q ≤ holders (in_slot S.held) slots.old q }
 {
     for slot in slots.iter_mut() {
-        slot.drop_page(page);
+        *slot = slot.and_then(|held| held.without(page));
     }
 }

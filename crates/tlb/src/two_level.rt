@@ -28,9 +28,7 @@ impl<A: Tlb, B: Tlb> Tlb for TwoLevelTlb<A, B> {
         if let Some(translation) = self.first.probe(page) {
             return Some(translation);
         }
-        let Some(translation) = self.second.probe(page) else {
-            return None;
-        };
+        let translation = self.second.probe(page)?;
         let word = Word::Full(FullWord::of_page(translation));
         self.first.load(Entry { page, word }, page);
         Some(translation)

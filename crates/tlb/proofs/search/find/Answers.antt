@@ -1,11 +1,14 @@
-use Rattle.std.proofs.Common.{Some, None, sym, ap, ◌∙◌}
-use Rattle.tlb.proofs.Rows.{placed_by}
+use Rattle.std.proofs.Common.{rules}
+use borrow.Author.Tests.{tests}
+use Rattle.tlb.specs.Slots.{in_slot}
+use Rattle.tlb.proofs.Found.{found, first_mapped, answers}
 use Rattle.tlb.proofs.search.find.Goals as goal
-
-pub returns-in_default : goal.returns-in_default
-returns-in_default g c = sym (placed_by g.S.Slot.held c.args.slots.now c.args.page.number None c.in_default.ensures.first).0
 
 pub returns : goal.returns
 returns g c =
-    c.answer.ensures ∙ ap (λ s. g.S.Slot.held s c.args.page.number) c.index-slots-at.is
-    ∙ sym ((placed_by g.S.Slot.held c.args.slots.now c.args.page.number (Some c.in-Some.at) c.in-Some.ensures.first).1 c.index-slots-at.result)
+    let held = in_slot g.S.Slot.held in
+    let xs = c.args.slots.now in
+    let p = c.args.page.number in
+    let r = c.find_map.result in
+    let first = found held xs p r (first_mapped _ (λ y. y.now) _ _ (λ s. held s p) (λ x a q k. search (rules, tests)) xs _ _ _ c.iter.ensures.runs c.iter.ensures.rest c.find_map.ensures.runs) in
+    record { first = first; answer = answers held xs p r first }

@@ -1,19 +1,13 @@
-use Rattle.std.proofs.Common.{◌≡◌, true, is_some, sym, arith, rules}
-use borrow.Author.Rules.{get_or_read}
-use Rattle.std.specs.List.{HoldsAt}
-use Rattle.tlb.proofs.Rows.{found, not_found}
+use Rattle.std.proofs.Common.{◌≡◌, false, is_some, rules, true}
+use borrow.Author.Tests.{tests}
+use Rattle.std.proofs.lemmas.Iterator.{YieldsList-from_slice, IsFirst-from_position}
+use Rattle.tlb.specs.Slots.{in_slot}
+use Rattle.tlb.proofs.Found.{placed}
 use Rattle.tlb.proofs.search.place.Goals as goal
 
-pub returns-then-is_some : goal.returns-then-is_some
-returns-then-is_some g c =
-    let here : HoldsAt (λ s. is_some (g.S.Slot.held s c.args.page.number) ≡ true) c.args.slots.now c.loop-i.i = search (rules, get_or_read) in
-    record {
-      first = sym (found g.S.Slot.held c.args.slots.now c.loop-i.i c.args.page.number c.loop-i.invariant (omega arith) here);
-      within = omega arith;
-    }
-
-pub returns : goal.returns
-returns g c = record {
-  first = sym (not_found g.S.Slot.held c.args.slots.now c.args.page.number (λ k d a b. c.loop-i.invariant k d a (omega arith)));
-  within = tt;
-}
+pub returns-clause-first : goal.returns-clause-first
+returns-clause-first g c =
+    let held = in_slot g.S.Slot.held in
+    let p = c.args.page.number in
+    placed held c.args.slots.now p c.position.result
+    (IsFirst-from_position _ _ _ (λ s. is_some (held s p) ≡ true) (λ s. is_some (held s p) ≡ false) c.position.ensures.ran (YieldsList-from_slice c.args.slots.now cc) (λ x q k. search (rules, tests)) (λ x q k. search (rules, tests)))

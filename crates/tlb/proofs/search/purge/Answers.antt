@@ -1,15 +1,22 @@
-use Rattle.std.proofs.Common.{get_or, arith}
-use Rattle.tlb.specs.Slots.{Each}
+use Rattle.std.proofs.Common.{arith}
+use Rattle.tlb.specs.Slots.{in_slot}
+use Rattle.tlb.proofs.Rows.{lost_pages, lost_lessens, lost_gone, lessens_pair, lessens_holders}
 use Rattle.tlb.proofs.Upto.{upto_all}
 use Rattle.tlb.proofs.search.purge.Goals as goal
 
 pub returns : goal.returns
 returns g c =
+    let held = in_slot g.S.Slot.held in
     let xs = c.args.slots.now in
     let ys = c.loop-slot.slots in
     let p = c.args.page.number in
-    let each : Each (λ s u. g.S.Slot.dropped s p u) xs ys = upto_all (λ s u. g.S.Slot.dropped s p u) xs ys c.loop-slot.slot-index (omega arith) c.loop-slot.invariant in
+    let exact = upto_all _ xs ys c.loop-slot.slot-index (omega arith) c.loop-slot.invariant in
+    let pages = lost_pages g.S.Slot.held g.S.Slot.dropped g.met.S.Slot.drops xs ys p exact in
+    let fewer = lost_lessens held xs ys p pages in
     record {
-      exact = each;
-      pages = (each.0, λ k d l. g.met.S.Slot.drops (get_or xs k d) p (get_or ys k d) (each.1 k d l));
+      exact = exact;
+      pages = pages;
+      gone = λ (t, h). lost_gone held xs ys p pages t h;
+      within = λ q t. lessens_pair held xs ys q t fewer;
+      fewer = λ q. lessens_holders held xs ys q fewer;
     }
