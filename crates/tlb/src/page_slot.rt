@@ -31,8 +31,10 @@ impl Slot for PageSlot {
         }
     }
 
-    fn without(self, page: Page) -> Option<PageSlot> {
-        if self.page == page { None } else { Some(self) }
+    fn drop_page(slot: &mut Option<PageSlot>, page: Page) {
+        if slot.is_some_and(|held| held.page == page) {
+            *slot = None;
+        }
     }
 }
 

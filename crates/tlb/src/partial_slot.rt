@@ -37,18 +37,7 @@ impl PartialSlot {
         }
     }
 
-    // The slot without the block's pages at the offsets whose bits are set; none where no page is left.
-    fn cleared(self, block: Block, offsets: u16) -> Option<PartialSlot>
-        ensures { Cleared block.number offsets self result }
-    {
-        if self.overlaps(block, offsets) {
-            self.without_all(offsets)
-        } else {
-            Some(self)
-        }
-    }
-
-    // The slot without the offsets whose bits are set.
+    // The slot without the offsets whose bits are set; none where no page is left.
     fn without_all(self, offsets: u16) -> Option<PartialSlot>
         ensures { Loses offsets self result }
     {
@@ -64,11 +53,11 @@ impl PartialSlot {
 }
 
 // Clears the block's pages at the offsets whose bits are set.
-fn clear(slots: &mut [Option<PartialSlot>], block: Block, offsets: u16)
-    ensures { Each (Becomes (Cleared block.number offsets)) slots.old slots.new }
+fn clear(slot: &mut Option<PartialSlot>, block: Block, offsets: u16)
+    ensures { Becomes (Cleared block.number offsets) slot.old slot.new }
 {
-    for slot in slots.iter_mut() {
-        *slot = slot.and_then(|held| held.cleared(block, offsets));
+    if let Some(held) = slot.filter(|held| held.overlaps(block, offsets)) {
+        *slot = held.without_all(offsets);
     }
 }
 
@@ -95,8 +84,8 @@ impl Slot for PartialSlot {
         }
     }
 
-    fn without(self, page: Page) -> Option<PartialSlot> {
-        self.cleared(page.block(), page.offset().bit())
+    fn drop_page(slot: &mut Option<PartialSlot>, page: Page) {
+        clear(slot, page.block(), page.offset().bit());
     }
 }
 
@@ -121,7 +110,11 @@ impl Fill for PartialSlot {
 
     // The entry's pages are cleared in every slot of its block.
     fn make_room(slots: &mut [Option<PartialSlot>], entry: Entry, _: Page) -> Option<usize> {
-        clear(slots, entry.page.block(), entry.offsets());
+        let block = entry.page.block();
+        let offsets = entry.offsets();
+        for slot in slots.iter_mut() {
+            clear(slot, block, offsets);
+        }
         None
     }
 }

@@ -31,6 +31,6 @@ pub fn purge<S: Slot>(slots: &mut [Option<S>], page: Page)
     ensures fewer { (q : ℕ) → holders (in_slot S.held) slots.new q ≤ holders (in_slot S.held) slots.old q }
 {
     for slot in slots.iter_mut() {
-        *slot = slot.and_then(|held| held.without(page));
+        S::drop_page(slot, page);
     }
 }

@@ -1,7 +1,7 @@
 use Rattle.tlb.specs.PartialSlots.{Cleared}
 use Rattle.tlb.specs.Slots.{Becomes}
 use Rattle.tlb.proofs.Upto.{Upto}
-use Rattle.tlb.proofs.partial_slot.clear.Given as goal
+use Rattle.tlb.proofs.partial_slot.PartialSlotFill.make_room.Given as goal
 
 abbrev pub invariant-loop-slot : goal.invariant-loop-slot
 invariant-loop-slot l = Upto (Becomes (Cleared l.block.number l.offsets)) l.initial.slots l.slots l.slot-index
