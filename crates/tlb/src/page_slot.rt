@@ -24,11 +24,7 @@ impl Slot for PageSlot {
     ghost drops = { Prim.search rules };
 
     fn answer(&self, page: Page) -> Option<Translation> {
-        if self.page == page {
-            Some(self.translation)
-        } else {
-            None
-        }
+        (self.page == page).then_some(self.translation)
     }
 
     fn drop_page(slot: &mut Option<PageSlot>, page: Page) {

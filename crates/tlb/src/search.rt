@@ -11,7 +11,9 @@ pub fn place<S: Slot>(slots: &[Option<S>], page: Page) -> Option<usize>
     ensures first { result ≡ first_place (in_slot S.held) slots.now page.number }
     ensures within { IfSome result (λ k. k < length slots.now) }
 {
-    slots.iter().position(|slot| slot.as_ref().and_then(|held| held.answer(page)).is_some())
+    slots.iter().position(|slot| slot
+        .as_ref()
+        .is_some_and(|held| held.answer(page).is_some()))
 }
 
 // What the first slot that holds the page has for it.
