@@ -2,3 +2,4 @@ pub mod Rows
 pub mod Upto
 pub mod Levels
 pub mod Found
+pub mod Loads

@@ -107,6 +107,16 @@ lost_pages {S} held dropped drops xs ys p each = (each.0, λ k d l q. slot (get_
     slot None u e q = ap (λ x. in_slot held x q) e ∙ neither (eqb q p)
     slot (Some s) u d q = drops s p u d q
 
+-- where a slot may go for which room was made
+abbrev pub Goes : Option ℕ → ℕ → Type 0
+Goes place i = MatchOption place (Unit {0}) (λ k. k ≡ i)
+
+pub goes_there : (place : Option ℕ) (i : ℕ) → place ≡ Some i → Goes place i
+goes_there place i e = rw e refl
+
+pub goes_anywhere : (place : Option ℕ) (i : ℕ) → place ≡ None → Goes place i
+goes_anywhere place i e = rw e tt
+
 -- the slot n of an entry, for which room was made, comes to a place
 module _ {S : Type 0} (held : S → ℕ → Option Translation) (xs ys : List (Option S)) (n : S) (place : Option ℕ) (once : HeldOnce held xs) (room : RoomFor held xs n place ys) where
   fewer : Lessens (in_slot held) xs ys
@@ -115,14 +125,17 @@ module _ {S : Type 0} (held : S → ℕ → Option Translation) (xs ys : List (O
   pub left_once : HeldOnce held ys
   left_once q = let a = lessens_holders (in_slot held) xs ys q fewer in let b = once q in omega arith
 
-  module _ (i : ℕ) (goes : (k : ℕ) → k ≢ i → place ≢ Some k) where
+  module _ (i : ℕ) (goes : Goes place i) where
+    elsewhere : (k : ℕ) → k ≢ i → place ≢ Some k
+    elsewhere k ne e = ne (rw e at goes)
+
     pub stored_once : HeldOnce held (set ys i (Some n))
     stored_once q = each (held n q) refl
       where
         each : (o : Option Translation) → held n q ≡ o → holders (in_slot held) (set ys i (Some n)) q ≤ 1
         each None e = let a = set_holders (in_slot held) ys i (Some n) q in let b = left_once q in let c = ap one e in omega arith
         each (Some t) e =
-            let a = alone (in_slot held) ys i (Some n) q (λ k d l ne. room.free k d q t (omega (arith, room.long)) (goes k ne) e) in
+            let a = alone (in_slot held) ys i (Some n) q (λ k d l ne. room.free k d q t (omega (arith, room.long)) (elsewhere k ne) e) in
             let c = ap one e in
             omega arith
 

@@ -8,4 +8,6 @@ pub mod PartialSlots
 pub mod Clearing
 pub mod PartialLaws
 pub mod Slotted
+pub mod OnePage
+pub mod Partial
 pub mod TwoLevel

@@ -4,6 +4,10 @@ use Rattle.words.specs.declared.translation.Translation.{Translation}
 use Rattle.tlb.specs.declared.entry.Entry.{Entry}
 use Rattle.tlb.specs.Entries.{entry_says}
 
+-- either fact follows from the other
+abbrev pub Same : Type 0 → Type 0 → Type 0
+Same A B = (A → B) × (B → A)
+
 pub record TlbMeaning (X : Type 0) : Type 1 where
   pub pairs : X → ℕ → Translation → Type 0
   -- the exact step of each call, from the TLB before to the TLB after
@@ -11,6 +15,14 @@ pub record TlbMeaning (X : Type 0) : Type 1 where
   pub loaded : X → Entry → ℕ → X → Type 0
   pub purged : X → ℕ → X → Type 0
   pub flushed : X → X → Type 0
+
+-- two meanings that say the same of every TLB
+pub record SameMeaning {X : Type 0} (a b : TlbMeaning X) : Type 0 where
+  pub pairs : (s : X) (p : ℕ) (t : Translation) → Same (a.pairs s p t) (b.pairs s p t)
+  pub probed : (s : X) (p : ℕ) (r : Option Translation) (u : X) → Same (a.probed s p r u) (b.probed s p r u)
+  pub loaded : (s : X) (e : Entry) (p : ℕ) (u : X) → Same (a.loaded s e p u) (b.loaded s e p u)
+  pub purged : (s : X) (p : ℕ) (u : X) → Same (a.purged s p u) (b.purged s p u)
+  pub flushed : (s u : X) → Same (a.flushed s u) (b.flushed s u)
 
 module _ {X : Type 0} (pairs : X → ℕ → Translation → Type 0) where
   -- the TLB may answer for the page

@@ -4,6 +4,7 @@
 mod entry;
 mod fill;
 mod hand;
+mod laws;
 mod page_slot;
 mod partial_slot;
 mod search;
@@ -16,6 +17,7 @@ mod two_level;
 pub use entry::Entry;
 pub use fill::Fill;
 pub use hand::Hand;
+pub use laws::{one_page_means, partial_subblock_means};
 pub use page_slot::PageSlot;
 pub use partial_slot::PartialSlot;
 pub use search::{find, place, purge};

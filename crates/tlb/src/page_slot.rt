@@ -12,8 +12,8 @@ use words::{Page, Translation};
 
 #[derive(Clone, Copy)]
 pub struct PageSlot {
-    page: Page,
-    translation: Translation,
+    pub page: Page,
+    pub translation: Translation,
 }
 
 impl Slot for PageSlot {
