@@ -1,5 +1,5 @@
 -- The pairs of two levels, and what a full-form entry brings into the first.
-use Rattle.std.proofs.Common.{◌≡◌, ℕ, Bool, true, false, cond, eqb, Some, None, Option, sym, refl, ap, ◌∙◌, subst, inl, inr, ⊎_elim, arith, MatchOption}
+use Rattle.std.proofs.Common.{◌≡◌, ℕ, cond, eqb, Some, None, Option, sym, refl, ap, ◌∙◌, subst, inl, inr, ⊎_elim, arith, MatchOption}
 use Rattle.std.proofs.lemmas.Bool.{eq-eqb, eqb-true}
 use Rattle.std.specs.Result.{result_ok}
 use Rattle.words.specs.declared.translation.Translation.{Translation}
@@ -10,6 +10,7 @@ use Rattle.words.specs.Reading.{form_number, reading}
 use Rattle.words.proofs.Blocks.{full_reading}
 use Rattle.tlb.specs.declared.entry.Entry.{Entry}
 use Rattle.tlb.specs.declared.two_level.TwoLevelTlb.{TwoLevelTlb}
+use Rattle.tlb.specs.Choices.{kept}
 use Rattle.tlb.specs.Entries.{reaches, entry_says}
 use Rattle.tlb.specs.Meaning.{TlbMeaning, HasPair, Within, Loads, Takes}
 use Rattle.tlb.specs.TwoLevel.{PageEntry, two_level}
@@ -26,29 +27,18 @@ module _ (e : Entry) (p : ℕ) (t : Translation) (own : PageEntry e p t) where
   says_own : entry_says e p ≡ Some t
   says_own = entry_is p ∙ ap (λ b. cond b (Some t) None) (eq-eqb p p refl)
 
-  chosen : (b : Bool) (x : Translation) → cond b (Some t) None ≡ Some x → (b ≡ true) × (x ≡ t)
-  chosen true x h = (refl, cc)
-  chosen false x h = let z : ◌≡◌ {A = ℕ} 0 1 = cc in absurd (omega arith)
-
   says_only : (q : ℕ) (x : Translation) → entry_says e q ≡ Some x → (q ≡ p) × (x ≡ t)
-  says_only q x h = let (b, i) = chosen (eqb q p) x (sym (entry_is q) ∙ h) in (eqb-true q p b, i)
+  says_only q x h = let (b, i) = kept (eqb q p) (Some t) x (sym (entry_is q) ∙ h) in (eqb-true q p b, cc)
 
   -- a TLB that was loaded with the entry has taken it in, and each of its pairs was there or is that of the page
   module _ {X : Type 0} (pairs : X → ℕ → Translation → Type 0) (s u : X) (loads : Loads pairs s e p u) where
     taken : Takes pairs s e p t u
     taken = subst (λ o. MatchOption o (u ≡ s) (λ x. Takes pairs s e p x u)) says_own loads
 
-    pub has_own : pairs u p t
-    has_own = taken.has
-
     pub within_or : (P : ℕ → Translation → Type 0) → ((q : ℕ) (x : Translation) → pairs s q x → P q x) → P p t → (q : ℕ) (x : Translation) → pairs u q x → P q x
     within_or P old new q x h = ⊎_elim (old q x) (λ says. let (i, j) = says_only q x says in rw (i, j) new) (taken.from q x h)
 
 module _ {X Y : Type 0} (a : TlbMeaning X) (b : TlbMeaning Y) (s u : TwoLevelTlb X Y) where
-  pub both_within : Within a.pairs s.first u.first → Within b.pairs s.second u.second → Within (two_level a b).pairs s u
-  both_within f g q t (inl h) = inl (f q t h)
-  both_within f g q t (inr h) = inr (g q t h)
-
   pub both_gone : (p : ℕ) → (HasPair a.pairs u.first p → ⊥) → (HasPair b.pairs u.second p → ⊥) → HasPair (two_level a b).pairs u p → ⊥
   both_gone p f g (t, inl h) = f (t, h)
   both_gone p f g (t, inr h) = g (t, h)

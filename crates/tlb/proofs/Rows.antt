@@ -1,18 +1,16 @@
 -- Slots in a row: what is left when slots lose pages, and what a new slot brings.
-use Rattle.std.proofs.Common.{◌≡◌, ℕ, zero, suc, ◌+◌, ◌<◌, ◌≤◌, ◌≢◌, Bool, true, false, cond, eqb, ◌⊎◌, List, [], ◌∷◌, length, get_or, set, Some, None, Option, sym, refl, ap, ◌∙◌, subst, inl, inr, ⊎_elim, arith, MatchOption}
+use Rattle.std.proofs.Common.{◌≡◌, ℕ, zero, suc, ◌+◌, ◌<◌, ◌≤◌, ◌≢◌, eqb, ◌⊎◌, List, [], ◌∷◌, length, get_or, set, Some, None, Option, sym, refl, ap, ◌∙◌, subst, inl, inr, ⊎_elim, arith, MatchOption}
 use Rattle.std.proofs.lemmas.Bool.{cond-true, eq-eqb}
 use Rattle.words.specs.declared.translation.Translation.{Translation}
 use Rattle.tlb.specs.declared.entry.Entry.{Entry}
 use Rattle.tlb.specs.Meaning.{Takes}
+use Rattle.tlb.specs.Choices.{left, none_either}
 use Rattle.tlb.specs.RowLaws.{one}
 use Rattle.tlb.specs.Slots.{Holds, holders, in_slot, Becomes, Each, without_page, HeldOnce, Says, RoomFor}
 
 -- what is said by cases, at a known case
 pub at_some : {X : Type 0} (o : Option X) (x : X) (A : Type 0) (B : X → Type 0) → Some x ≡ o → B x → MatchOption o A B
 at_some o x A B e b = subst (λ y. MatchOption y A B) e b
-
-pub at_none : {X : Type 0} (o : Option X) (A : Type 0) (B : X → Type 0) → None ≡ o → A → MatchOption o A B
-at_none o A B e a = subst (λ y. MatchOption y A B) e a
 
 module _ {S : Type 0} (held : S → ℕ → Option Translation) where
   -- no holder, no pair; one holder, one pair
@@ -84,12 +82,8 @@ module _ {S : Type 0} (held : S → ℕ → Option Translation) where
 
   -- slots that lost a page
   module _ (xs ys : List S) (p : ℕ) (lost : Each (λ s u. (q : ℕ) → held u q ≡ without_page (held s) p q) xs ys) where
-    left : (b : Bool) (o : Option Translation) (t : Translation) → cond b None o ≡ Some t → (o ≡ Some t) × (b ≡ false)
-    left true o t e = cc
-    left false o t e = (e, refl)
-
     pub lost_lessens : Lessens xs ys
-    lost_lessens = record { long = lost.0; each = λ k d q t l e. (left (eqb q p) _ t (sym (lost.1 k d l q) ∙ e)).0 }
+    lost_lessens = record { long = lost.0; each = λ k d q t l e. (left (eqb q p) _ t (sym (lost.1 k d l q) ∙ e)).1 }
 
     pub lost_gone : (t : Translation) → Holds held ys p t → ⊥
     lost_gone t h = no_pair ys p t (none_holds ys p (λ k d l. lost.1 k d (omega (arith, lost.0)) p ∙ cond-true _ _ _ (eq-eqb p p refl))) h
@@ -99,12 +93,8 @@ pub lost_pages : {S : Type 0} (held : S → ℕ → Option Translation) (dropped
     (xs ys : List (Option S)) (p : ℕ) → Each (Becomes (λ s u. dropped s p u)) xs ys → Each (λ s u. (q : ℕ) → in_slot held u q ≡ without_page (in_slot held s) p q) xs ys
 lost_pages {S} held dropped drops xs ys p each = (each.0, λ k d l q. slot (get_or xs k d) (get_or ys k d) (each.1 k d l) q)
   where
-    neither : (b : Bool) → ◌≡◌ {A = Option Translation} None (cond b None None)
-    neither true = refl
-    neither false = refl
-
     slot : (o u : Option S) → Becomes (λ s u. dropped s p u) o u → (q : ℕ) → in_slot held u q ≡ without_page (in_slot held o) p q
-    slot None u e q = ap (λ x. in_slot held x q) e ∙ neither (eqb q p)
+    slot None u e q = ap (λ x. in_slot held x q) e ∙ sym (none_either (eqb q p))
     slot (Some s) u d q = drops s p u d q
 
 -- where a slot may go for which room was made

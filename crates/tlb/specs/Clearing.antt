@@ -12,6 +12,7 @@ use Rattle.words.proofs.Flip.{one_bit}
 use Rattle.tlb.specs.declared.partial_slot.PartialSlot.{PartialSlot}
 use Rattle.tlb.specs.declared.partial_slot.PartialSlot.TheVariants.{Subblock, Single}
 use Rattle.tlb.specs.PartialSlots.{block_held, overlaps, Loses, Cleared, block_dropped}
+use Rattle.tlb.specs.Choices.{none_either}
 use Rattle.tlb.specs.Slots.{in_slot, Becomes, without_page}
 
 -- the pages of the block b at the offsets whose bits os has
@@ -27,10 +28,6 @@ apart m n k z h =
     let d : bit_and m n / 2 ^ k % 2 ≡ 0 / 2 ^ k % 2 = ap (λ x. x / 2 ^ k % 2) z in
     let f = native.Mathlib.Nat.zero-div (2 ^ k) in
     ne_eqb _ 1 (λ g. omega arith)
-
-none_either : (b : Bool) → ◌≡◌ {A = Option Translation} (cond b None None) None
-none_either true = refl
-none_either false = refl
 
 -- a slot that does not overlap holds none of the pages
 untouched : (b os : ℕ) (s : PartialSlot) (q : ℕ) → overlaps b os s ≡ false → names b os q ≡ true → block_held s q ≡ None

@@ -2,6 +2,7 @@ pub mod Entries
 pub mod Meaning
 pub mod Slots
 pub mod PageSlots
+pub mod Choices
 pub mod RowLaws
 pub mod PageLaws
 pub mod PartialSlots

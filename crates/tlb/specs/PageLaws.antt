@@ -1,5 +1,5 @@
 -- Why no page has two of the slots for one page: a new slot takes the place of the one that holds its page.
-use Rattle.std.specs.Prelude.{◌≡◌, ℕ, Bool, true, false, cond, Some, None, Option, List, length, ◌==◌, slice_index_or, refl}
+use Rattle.std.specs.Prelude.{◌≡◌, ℕ, Some, Option, List, length, ◌==◌, slice_index_or}
 use Rattle.std.proofs.Common.{sym, ap, ◌∙◌, subst}
 use Rattle.std.proofs.lemmas.Bool.{eqb-true, eq-eqb, cond-true}
 use Rattle.words.specs.declared.translation.Translation.{Translation}
@@ -7,16 +7,13 @@ use Rattle.tlb.specs.declared.entry.Entry.{Entry}
 use Rattle.tlb.specs.declared.page_slot.PageSlot.{PageSlot}
 use Rattle.tlb.specs.Entries.{entry_says}
 use Rattle.tlb.specs.PageSlots.{page_held, IsHeld, PageRoom}
+use Rattle.tlb.specs.Choices.{kept}
 use Rattle.tlb.specs.Slots.{in_slot, HeldOnce, Says, RoomFor}
 use Rattle.tlb.specs.RowLaws.{only_first}
 
-chosen : (b : Bool) (x y : Translation) → cond b (Some x) None ≡ Some y → (b ≡ true) × (x ≡ y)
-chosen true x y e = (refl, cc)
-chosen false x y e = cc
-
 -- a slot that holds a page holds no other
 held_is : (n : PageSlot) (q : ℕ) (x : Translation) → page_held n q ≡ Some x → (q ≡ n.page.number) × (n.translation ≡ x)
-held_is n q x h = let (a, b) = chosen (q == n.page.number) n.translation x h in (eqb-true q n.page.number a, b)
+held_is n q x h = let (a, b) = kept (q == n.page.number) (Some n.translation) x h in (eqb-true q n.page.number a, cc)
 
 pub says_entry : (e : Entry) (p : ℕ) (t : Translation) (n : PageSlot) → entry_says e p ≡ Some t → IsHeld p t n → Says page_held e p t n
 says_entry e p t n s (i, j) = record {

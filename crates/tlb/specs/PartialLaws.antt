@@ -1,6 +1,6 @@
 -- Why no page has two of the slots for pages of one block: the slot of an entry says what the entry says, and these pages are cleared in
 -- every other slot.
-use Rattle.std.specs.Prelude.{◌≡◌, ℕ, Bool, true, false, cond, Some, None, Option, List, refl}
+use Rattle.std.specs.Prelude.{◌≡◌, ℕ, true, cond, Some, None, Option, List, refl}
 use Rattle.std.proofs.Common.{eqb, sym, ap, ◌∙◌, ⊎_elim, arith}
 use Rattle.std.proofs.lemmas.Bool.{cases_Bool, eqb-true, eqb-false, eq-eqb, ne_eqb, and_from, cond-true, cond-false}
 use Rattle.std.specs.Result.{result_ok}
@@ -18,6 +18,7 @@ use Rattle.tlb.specs.declared.partial_slot.PartialSlot.{PartialSlot}
 use Rattle.tlb.specs.declared.partial_slot.PartialSlot.TheVariants.{Subblock, Single}
 use Rattle.tlb.specs.Entries.{reaches, entry_says, word_offsets, entry_offsets}
 use Rattle.tlb.specs.PartialSlots.{block_held, IsSlot, BlockRoom}
+use Rattle.tlb.specs.Choices.{kept, left}
 use Rattle.tlb.specs.Slots.{HeldOnce, Says, RoomFor}
 use Rattle.tlb.specs.Clearing.{names, one_page, slot_cleared}
 
@@ -35,10 +36,6 @@ sound (Full f) = f.sound
 
 says_said : (w : Word) (p q : ℕ) → says w p q ≡ cond (reaches (form_of w) p q) (said (form_of w) (bits_of w) (offset_of q)) None
 says_said w p q = ap (λ x. cond (reaches (form_of w) p q) x None) (ap result_ok (sound_reading (form_of w) (bits_of w) (offset_of q) (sound w) (omega arith)) ∙ ok_answer (said (form_of w) (bits_of w) (offset_of q)))
-
-kept : (b : Bool) (x : Option Translation) (t : Translation) → cond b x None ≡ Some t → (b ≡ true) × (x ≡ Some t)
-kept true x t e = (refl, e)
-kept false x t e = absurd (let z : ◌≡◌ {A = ℕ} 0 1 = cc in omega arith)
 
 -- what an entry says of a page is among the pages that it clears
 said_named : (w : Word) (p q : ℕ) (t : Translation) → says w p q ≡ Some t → names (block_of p) (word_offsets (form_of w) p (bits_of w)) q ≡ true
@@ -79,16 +76,12 @@ slot_says e p t (Single r u) (f, i, j) s q =
 pub says_entry : (e : Entry) (p : ℕ) (t : Translation) (n : PartialSlot) → entry_says e p ≡ Some t → IsSlot e p t n → Says block_held e p t n
 says_entry e p t n s m = record { own = slot_says e p t n m s p ∙ s; within = λ q x h. sym (slot_says e p t n m s q) ∙ h }
 
-left : (b : Bool) (x : Option Translation) (t : Translation) → cond b None x ≡ Some t → x ≡ Some t
-left true x t e = cc
-left false x t e = e
-
 pub frees : (xs : List (Option PartialSlot)) (e : Entry) (p : ℕ) (t : Translation) (n : PartialSlot) (at : Option ℕ) (ys : List (Option PartialSlot)) → HeldOnce block_held xs → entry_says e p ≡ Some t → IsSlot e p t n → BlockRoom xs e at ys → RoomFor block_held xs n at ys
 frees xs e p t n at ys once s m (_, (long, each)) =
     let b = block_of e.page.number in
     let os = entry_offsets e in
     record {
       long = long;
-      within = λ k d q x l h. left (names b os q) _ x (sym (slot_cleared b os _ _ (each k d l) q) ∙ h);
+      within = λ k d q x l h. (left (names b os q) _ x (sym (slot_cleared b os _ _ (each k d l) q) ∙ h)).1;
       free = λ k d q x l away h. slot_cleared b os _ _ (each k d l) q ∙ cond-true _ _ _ (said_named e.word e.page.number q x (sym (slot_says e p t n m s q) ∙ h));
     }

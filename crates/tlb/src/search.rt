@@ -6,14 +6,19 @@ ghost use Rattle.tlb.specs.Slots.{in_slot, Holds, holders, first_place, first_he
 use crate::slot::Slot;
 use words::{Page, Translation};
 
+// An empty slot holds nothing.
+fn in_slot<S: Slot>(slot: &Option<S>, page: Page) -> Option<Translation>
+    ensures { result ≡ in_slot S.held slot.now page.number }
+{
+    slot.as_ref()?.answer(page)
+}
+
 // The first slot that holds the page.
 pub fn place<S: Slot>(slots: &[Option<S>], page: Page) -> Option<usize>
     ensures first { result ≡ first_place (in_slot S.held) slots.now page.number }
     ensures within { IfSome result (λ k. k < length slots.now) }
 {
-    slots.iter().position(|slot| slot
-        .as_ref()
-        .is_some_and(|held| held.answer(page).is_some()))
+    slots.iter().position(|slot| in_slot(slot, page).is_some())
 }
 
 // What the first slot that holds the page has for it.
@@ -21,7 +26,7 @@ pub fn find<S: Slot>(slots: &[Option<S>], page: Page) -> Option<Translation>
     ensures first { result ≡ first_held (in_slot S.held) slots.now page.number }
     ensures answer { Answers (Holds (in_slot S.held)) slots.now page.number result slots.now }
 {
-    slots.iter().find_map(|slot| slot.as_ref()?.answer(page))
+    slots.iter().find_map(|slot| in_slot(slot, page))
 }
 
 // Drops the page from every slot.

@@ -1,7 +1,6 @@
 use Rattle.std.proofs.Common.{arith}
-use Rattle.tlb.specs.Slots.{in_slot}
+use Rattle.tlb.specs.Slots.{Becomes, Each, in_slot}
 use Rattle.tlb.proofs.Rows.{lost_pages, lost_lessens, lost_gone, lessens_pair, lessens_holders}
-use Rattle.tlb.proofs.Upto.{upto_all}
 use Rattle.tlb.proofs.search.purge.Goals as goal
 
 pub returns : goal.returns
@@ -10,7 +9,7 @@ returns g c =
     let xs = c.args.slots.now in
     let ys = c.loop-slot.slots in
     let p = c.args.page.number in
-    let exact = upto_all _ xs ys c.loop-slot.slot-index (omega arith) c.loop-slot.invariant in
+    let exact : Each (Becomes (λ s u. g.S.Slot.dropped s p u)) xs ys = (c.loop-slot.invariant.long, λ k d l. c.loop-slot.invariant.below k d (omega arith)) in
     let pages = lost_pages g.S.Slot.held g.S.Slot.dropped g.met.S.Slot.drops xs ys p exact in
     let fewer = lost_lessens held xs ys p pages in
     record {
