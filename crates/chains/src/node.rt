@@ -4,7 +4,7 @@ ghost use Rattle.chains.specs.Blocks.{is_number};
 
 use words::{Block, CompactWord};
 
-// One of 128 rows of sixteen full words, by its number.
+// One of 128 rows of sixteen full words, by its number; a type of its own, as a page is.
 #[derive(Clone, Copy, PartialEq, Eq, Debug)]
 pub struct RowNumber {
     pub number: u8,

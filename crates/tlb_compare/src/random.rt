@@ -16,7 +16,7 @@ impl Random {
     }
 
     // A xorshift.
-    fn number(&mut self) -> u64 {
+    fn next_number(&mut self) -> u64 {
         self.state ^= self.state << 13;
         self.state ^= self.state >> 7;
         self.state ^= self.state << 17;
@@ -27,6 +27,6 @@ impl Random {
         requires { 0 < limit }
         ensures { result < limit }
     {
-        self.number() % limit
+        self.next_number() % limit
     }
 }
