@@ -61,8 +61,7 @@ module _ {S : Type 0} (held : S → ℕ → Option Translation) where
   answers xs p r e = subst (λ o. Answers (Holds held) xs p o xs) (sym e) (first_answers xs p)
 
 -- what `find_map` says of a run over xs, whose closure answers h and stays as it is
-module _ {I A B C F : Type 0} (steps : I → Option A → I → Type 0) (v : A → B) (g : Mut F (A × Unit {0}) (Option C)) (f : F) (h : B → Option C)
-    (closure : (x : A) (c : Option C) (q : F) → Called g f (x, tt) c q → (q ≡ f) × (c ≡ h (v x))) (xs : List B) where
+module _ {A B C F : Type 0} (v : A → B) (g : Mut F (A × Unit {0}) (Option C)) (f : F) (h : B → Option C) (closure : (x : A) (c : Option C) (q : F) → Called g f (x, tt) c q → (q ≡ f) × (c ≡ h (v x))) where
   reads : (o : Option A) (y : B) (c : Option C) → option_map v o ≡ Some y → IfSome o (λ x. Called g f (x, tt) c f) → h y ≡ c
   reads None y c e k = cc
   reads (Some x) y c e k = let (_, i) = closure x c f k in let j : v x ≡ y = cc in cc
@@ -71,25 +70,27 @@ module _ {I A B C F : Type 0} (steps : I → Option A → I → Type 0) (v : A �
   reads_some (Some x) y c e k = reads (Some x) y c e k
   reads_some None y c e k = absurd k
 
-  pub first_mapped : (s : I) (r : Option C) (rest : I → List B) → EveryRun steps (λ p. ItemsMapTo p v (rest p.from)) → rest s ≡ xs
-      → SomeRun steps s (λ p. MatchOption r (IsTrue p.whole × AllItemsGive p g f None) (λ y. (i : ℕ) × (i < p.len) × (p.len ≡ i + 1) × IsFirstToGive p g f (Some y) None i))
-      → MatchOption r (AllWithin (λ y. h y ≡ None) xs 0 (length xs)) (λ t. (k : ℕ) × (k < length xs) × HoldsAt (λ y. h y ≡ Some t) xs k × AllWithin (λ y. h y ≡ None) xs 0 k)
-  first_mapped s r rest every same (p, from, ran) = each r ran
-    where
-      items : ItemsMapTo p v xs
-      items = subst (λ ys. ItemsMapTo p v ys) (ap rest from ∙ same) (every p p.seen)
+pub first_mapped : {I A B C F : Type 0} {steps : I → Option A → I → Type 0} {v : A → B} {g : Mut F (A × Unit {0}) (Option C)} {f : F} (h : B → Option C) (xs : List B) (s : I) (r : Option C) (rest : I → List B)
+    → EveryRun steps (λ p. ItemsMapTo p v (rest p.from)) → rest s ≡ xs
+    → SomeRun steps s (λ p. MatchOption r (IsTrue p.whole × AllItemsGive p g f None) (λ y. (i : ℕ) × (i < p.len) × (p.len ≡ i + 1) × IsFirstToGive p g f (Some y) None i))
+    → ((x : A) (c : Option C) (q : F) → Called g f (x, tt) c q → (q ≡ f) × (c ≡ h (v x)))
+    → MatchOption r (AllWithin (λ y. h y ≡ None) xs 0 (length xs)) (λ t. (k : ℕ) × (k < length xs) × HoldsAt (λ y. h y ≡ Some t) xs k × AllWithin (λ y. h y ≡ None) xs 0 k)
+first_mapped {C = C} {v = v} {g = g} {f = f} h xs s r rest every same (p, from, ran) closure = each r ran
+  where
+    items : ItemsMapTo p v xs
+    items = subst (λ ys. ItemsMapTo p v ys) (ap rest from ∙ same) (every p p.seen)
 
-      keeps : CallKeepsClosure g f
-      keeps a c q k = (closure a.0 c q k).0
+    keeps : CallKeepsClosure g f
+    keeps a c q k = (closure a.0 c q k).0
 
-      each : (r : Option C)
-          → MatchOption r (IsTrue p.whole × AllItemsGive p g f None) (λ y. (i : ℕ) × (i < p.len) × (p.len ≡ i + 1) × IsFirstToGive p g f (Some y) None i)
-          → MatchOption r (AllWithin (λ y. h y ≡ None) xs 0 (length xs)) (λ t. (k : ℕ) × (k < length xs) × HoldsAt (λ y. h y ≡ Some t) xs k × AllWithin (λ y. h y ≡ None) xs 0 k)
-      each None (whole, none) = λ k d a b. reads (p.at k) (get_or xs k d) None (items.2 k d (omega (arith, items.1 whole))) (none keeps k)
-      each (Some t) (i, l, last, first) =
-          let (here, before) = first keeps in (
-            i,
-            omega (arith, items.0),
-            (λ d. reads_some (p.at i) (get_or xs i d) (Some t) (items.2 i d l) here),
-            (λ k d a b. reads_some (p.at k) (get_or xs k d) None (items.2 k d (omega arith)) (before k b)),
-          )
+    each : (r : Option C)
+        → MatchOption r (IsTrue p.whole × AllItemsGive p g f None) (λ y. (i : ℕ) × (i < p.len) × (p.len ≡ i + 1) × IsFirstToGive p g f (Some y) None i)
+        → MatchOption r (AllWithin (λ y. h y ≡ None) xs 0 (length xs)) (λ t. (k : ℕ) × (k < length xs) × HoldsAt (λ y. h y ≡ Some t) xs k × AllWithin (λ y. h y ≡ None) xs 0 k)
+    each None (whole, none) = λ k d a b. reads v g f h closure (p.at k) (get_or xs k d) None (items.2 k d (omega (arith, items.1 whole))) (none keeps k)
+    each (Some t) (i, l, last, first) =
+        let (here, before) = first keeps in (
+          i,
+          omega (arith, items.0),
+          (λ d. reads_some v g f h closure (p.at i) (get_or xs i d) (Some t) (items.2 i d l) here),
+          (λ k d a b. reads_some v g f h closure (p.at k) (get_or xs k d) None (items.2 k d (omega arith)) (before k b)),
+        )

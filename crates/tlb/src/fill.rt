@@ -1,5 +1,5 @@
 // How the slot of an entry comes into a row of slots.
-ghost use Rattle.std.specs.Prelude.{◌≡◌, ℕ, ◌<◌, ◌≤◌, List, length, IfSome, Some, Option as Maybe};
+ghost use Rattle.std.specs.Prelude.{◌≡◌, ℕ, ◌<◌, List, length, IfSome, Some, Option as Maybe};
 ghost use Rattle.tlb.specs.Entries.{entry_says};
 ghost use Rattle.tlb.specs.Slots.{HeldOnce, Says, RoomFor};
 ghost use Rattle.tlb.specs.declared.entry.Entry.{Entry as Given};

@@ -1,7 +1,7 @@
 // A slot for pages of one block.
 ghost use Rattle.std.specs.Prelude.{◌≡◌};
 ghost use Rattle.tlb.specs.PartialSlots.{block_held, block_dropped, overlaps, Loses, Cleared, IsSlot, BlockRoom};
-ghost use Rattle.tlb.specs.Slots.{Each, Becomes};
+ghost use Rattle.tlb.specs.Slots.{Becomes};
 ghost use Rattle.tlb.specs.Clearing;
 ghost use Rattle.tlb.specs.PartialLaws;
 

@@ -10,5 +10,5 @@ returns g c =
     let xs = c.args.slots.now in
     let p = c.args.page.number in
     let r = c.find_map.result in
-    let first = found held xs p r (first_mapped _ (λ y. y.now) _ _ (λ s. held s p) (λ x a q k. search (rules, tests)) xs c.iter.result r (λ s. s.rest.now) c.iter.ensures.runs c.iter.ensures.rest c.find_map.ensures.runs) in
+    let first = found held xs p r (first_mapped (λ s. held s p) xs c.iter.result r (λ s. s.rest.now) c.iter.ensures.runs c.iter.ensures.rest c.find_map.ensures.runs (λ x a q k. search (rules, tests))) in
     record { first = first; answer = answers held xs p r first }
