@@ -1,5 +1,4 @@
 // A slot for one page.
-ghost use Rattle.std.specs.Prelude.{◌≡◌};
 ghost use Rattle.std.proofs.Common.{rules};
 ghost use Rattle.tlb.specs.PageSlots.{page_held, page_dropped, IsHeld, PageRoom};
 ghost use Rattle.tlb.specs.PageLaws;

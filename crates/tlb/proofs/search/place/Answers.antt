@@ -8,6 +8,7 @@ use Rattle.tlb.proofs.search.place.Goals as goal
 pub returns-clause-first : goal.returns-clause-first
 returns-clause-first g c =
     let held = in_slot g.S.Slot.held in
+    let xs = c.args.slots.now in
     let p = c.args.page.number in
-    placed held c.args.slots.now p c.position.result
-    (IsFirst-from_position _ _ _ (λ s. is_some (held s p) ≡ true) (λ s. is_some (held s p) ≡ false) c.position.ensures.ran (YieldsList-from_slice c.args.slots.now cc) (λ x q k. search (rules, tests)) (λ x q k. search (rules, tests)))
+    let is_first = placed held xs p c.position.result (IsFirst-from_position _ _ _ (λ s. is_some (held s p) ≡ true) (λ s. is_some (held s p) ≡ false) c.position.ensures.ran (YieldsList-from_slice xs cc) (λ x q k. search (rules, tests)) (λ x q k. search (rules, tests))) in
+    search (rules, is_first)
