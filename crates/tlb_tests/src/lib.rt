@@ -18,9 +18,9 @@ mod tests {
         frame: u32,
         attributes: u16,
     ) -> Result<(), Fail> {
-        let Some(translation) = Translation::new(frame, attributes) else {
-            return Err(Fail::new("frame or attributes out of range"));
-        };
+        let translation = Translation::new(frame, attributes).ok_or(Fail::new(
+            "frame or attributes out of range",
+        ))?;
         let entry = Entry {
             page: page(number),
             word: Word::Full(FullWord::of_page(translation)),
@@ -36,9 +36,9 @@ mod tests {
         offsets: u16,
         frame_block: u32,
     ) -> Result<(), Fail> {
-        let Some(word) = CompactWord::from_parts(offsets, frame_block, 3) else {
-            return Err(Fail::new("no compact word"));
-        };
+        let word = CompactWord::from_parts(offsets, frame_block, 3).ok_or(Fail::new(
+            "no compact word",
+        ))?;
         let entry = Entry {
             page: page(number),
             word: Word::Compact(word),
