@@ -15,14 +15,10 @@ impl Entry {
     pub fn translation(self, page: Page) -> Option<Translation>
         ensures { result ≡ entry_says self page.number }
     {
-        let near = match self.word {
-            Word::Compact(_) => page.block() == self.page.block(),
-            Word::Full(_) => page == self.page,
-        };
-        if near {
-            self.word.read(page.offset())
-        } else {
-            None
+        match self.word {
+            Word::Compact(word) if page.block() == self.page.block() => word.read(page.offset()),
+            Word::Full(word) if page == self.page => word.read(),
+            _ => None,
         }
     }
 

@@ -70,6 +70,7 @@ impl Slot for PartialSlot {
 
     fn answer(&self, page: Page) -> Option<Translation> {
         match *self {
+            // The check makes no proof yet of a guard that compares the block bound here.
             PartialSlot::Subblock { block, word } => {
                 if block == page.block() {
                     word.read(page.offset())
