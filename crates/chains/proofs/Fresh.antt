@@ -1,16 +1,15 @@
 -- New chains: every node is free.
-use Rattle.std.specs.List.{slice_get, range_with_len}
+use Rattle.std.specs.List.{slice_get}
 use Rattle.std.specs.Option.{option_map}
-use Rattle.std.proofs.lemmas.List.FromFn.{get_or-map-range_with_len}
 use Rattle.std.proofs.lemmas.Option.{slice_get_past}
 use lib.ListN.{length-replicate}
-use Rattle.std.proofs.Common.{map, None, Option, is_some, ◌≡◌, ℕ, zero, suc, ◌+◌, ◌^◌, ◌<◌, ◌≤◌, true, false, List, [], ◌∷◌, replicate, sym, refl, ap, ◌∙◌, subst, ⊎_elim, arith}
-use Rattle.std.proofs.lemmas.Bool.{cases_lt, cases_eq, le-ltb, lt-ltb, ne_eqb, cond-true, cond-false}
+use Rattle.std.proofs.Common.{None, Option, is_some, ◌≡◌, ℕ, zero, suc, ◌+◌, ◌^◌, ◌<◌, ◌≤◌, true, false, List, [], ◌∷◌, replicate, sym, refl, ap, ◌∙◌, subst, ⊎_elim, arith}
+use Rattle.std.proofs.lemmas.Bool.{cases_lt, cases_eq, le-ltb, cond-false}
 use Rattle.words.specs.Layout.{bucket_of}
 use Rattle.chains.specs.Counting.{how_many}
 use Rattle.chains.specs.Links.{chained, node_with, no_twice, on}
 use Rattle.chains.specs.declared.node.Node.{Node}
-use Rattle.chains.specs.Nodes.{link_number, first_link, link_at, owner, block_at, is_linked, home_at, chain_from, node_for, is_held, Sound, Single, Kept}
+use Rattle.chains.specs.Nodes.{AllFree, link_at, owner, block_at, is_linked, home_at, chain_from, node_for, is_held, Sound, Single, Kept}
 use Rattle.chains.proofs.Counts.{many_none}
 use Rattle.chains.proofs.Cut.{on_here, on_there}
 use Rattle.chains.proofs.Linking.{settled}
@@ -27,21 +26,15 @@ module _ (n : Node) (none : n.block ≡ None) where
   spare_owner (suc m) zero = none
   spare_owner (suc m) (suc i) = spare_owner m i
 
-module _ (ls : List (Option ℕ)) (new : ls ≡ map first_link (range_with_len 0 321)) (n : Node) (blank : n.block ≡ None) where
-  link : (k : ℕ) → k < 321 → link_at ls k ≡ link_number (first_link k)
-  link k l = ap (λ xs. link_at xs k) new ∙ ap link_number (get_or-map-range_with_len first_link 0 321 k k None l (omega arith))
-
+module _ (ls : List (Option ℕ)) (all_free : AllFree ls) (n : Node) (blank : n.block ≡ None) where
   free : link_at ls 320 ≡ 0
-  free = link 320 (omega arith)
+  free = (all_free 320 (omega arith)).first refl
 
   rises : (k : ℕ) → k < 256 → link_at ls k ≡ k + 1
-  rises k l = link k (omega arith) ∙ ⊎_elim
-      (λ lt. ap link_number (cond-true _ _ _ (lt-ltb k 255 lt)))
-      (λ ge. ap link_number (cond-false _ _ _ (le-ltb k 255 ge) ∙ cond-false _ _ _ (ne_eqb k 320 (λ e. omega arith))) ∙ (let e : 256 ≡ k + 1 = omega arith in e))
-      (cases_lt k 255)
+  rises k l = (all_free k (omega arith)).next l
 
   heads : (b : ℕ) → b < 64 → link_at ls (256 + b) ≡ 256
-  heads b l = link (256 + b) (omega arith) ∙ ap link_number (cond-false _ _ _ (le-ltb (256 + b) 255 (omega arith)) ∙ cond-false _ _ _ (ne_eqb (256 + b) 320 (λ e. omega arith)))
+  heads b l = (all_free (256 + b) (omega arith)).empty (omega arith) (omega arith)
 
   abbrev ns : List Node
   ns = replicate 256 n

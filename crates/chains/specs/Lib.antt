@@ -1,5 +1,6 @@
 pub mod Blocks
 pub mod Counting
+pub mod Faults
 pub mod Links
 pub mod Nodes
 pub mod Chains

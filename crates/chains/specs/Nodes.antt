@@ -1,5 +1,5 @@
 -- The links and the blocks of 256 nodes, as functions; which nodes are on which chain.
-use Rattle.std.specs.Prelude.{◌≡◌, ℕ, ◌+◌, ◌<◌, Bool, true, cond, ◌⊎◌, List, Some, None, Option, is_some, ◌==◌, nat_lt, option_and_then, slice_index_or}
+use Rattle.std.specs.Prelude.{◌≡◌, ℕ, ◌+◌, ◌<◌, ◌≤◌, Bool, true, cond, ◌⊎◌, List, Some, None, Option, is_some, nat_lt, option_and_then, slice_index_or}
 use Rattle.std.specs.List.{slice_get}
 use Rattle.words.specs.declared.address.Block.{Block}
 use Rattle.words.specs.Layout.{bucket_of}
@@ -15,9 +15,15 @@ link_number None = 256
 abbrev pub link_at : List (Option ℕ) → ℕ → ℕ
 link_at ls i = link_number (slice_index_or ls i None)
 
--- the links of new chains: every node is free, and each leads to the next
-abbrev pub first_link : ℕ → Option ℕ
-first_link i = cond (nat_lt i 255) (Some (i + 1)) (cond (i == 320) (Some 0) None)
+-- the link l of the place i while every node is free: all nodes are on the chain of the free ones, by their numbers, and every other
+-- chain is empty
+pub record FreeLink (i : ℕ) (l : Option ℕ) : Type 0 where
+  pub first : i ≡ 320 → link_number l ≡ 0
+  pub next : i < 256 → link_number l ≡ i + 1
+  pub empty : 256 ≤ i → i < 320 → link_number l ≡ 256
+
+abbrev pub AllFree : List (Option ℕ) → Type 0
+AllFree ls = (i : ℕ) → i < 321 → FreeLink i (slice_index_or ls i None)
 
 -- the block of a node, which one that is linked has
 abbrev pub owner : List Node → ℕ → Option Block

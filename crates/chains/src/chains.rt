@@ -1,9 +1,8 @@
 // Blocks on nodes: 256 nodes in 64 chains, and those that are free in one more.
-ghost use Rattle.std.specs.Prelude.{◌≡◌, ℕ, ◌^◌, None, Some, MatchOption, MatchResult, length, map, slice_index_or};
-ghost use Rattle.std.specs.List.{range_with_len};
+ghost use Rattle.std.specs.Prelude.{◌≡◌, ℕ, ◌^◌, None, Some, MatchOption, MatchResult, length, slice_index_or};
 ghost use Rattle.words.specs.Points.{at};
 ghost use Rattle.chains.specs.Counting.{how_many};
-ghost use Rattle.chains.specs.Nodes.{Sound, Single, Kept, first_link, is_linked, is_held};
+ghost use Rattle.chains.specs.Nodes.{Sound, Single, Kept, AllFree, FreeLink, is_linked, is_held};
 
 use crate::node::{Body, Found, NoNode, Node, RowNumber, Way};
 use std::array;
@@ -14,9 +13,9 @@ const HEADS: usize = 256;
 
 const FREE: usize = 320;
 
-// A link leads to the next node, where there is one. The links of the 256 nodes are followed by the heads of the 64 chains and of
-// the free nodes: in one array, so that a link is written alike in a node and in a head. A node that has a block is on the chain
-// of the block's bucket.
+// A link leads to the next node, where there is one; by its number, since there is no heap. The links of the 256 nodes are followed by the
+// heads of the 64 chains and of the free nodes: in one array, so that a link is written alike in a node and in a head. A node that has a
+// block is on the chain of the block's bucket.
 #[derive(Drop)]
 pub struct Chains {
     links: [Option<u8>; 321],
@@ -30,9 +29,9 @@ pub struct Chains {
     ghost held: { count ≡ how_many (is_held links nodes) (2 ^ 48) },
 }
 
-// Where a place leads while every node is free: the free head to the first node, and each node to the next.
-fn first_link(place: usize) -> Option<u8>
-    ensures { result ≡ first_link place }
+// Where a place leads while every node is free.
+fn free_link(place: usize) -> Option<u8>
+    ensures { FreeLink place result }
 {
     match place {
         0..=254 => Some(place as u8 + 1),
@@ -41,10 +40,10 @@ fn first_link(place: usize) -> Option<u8>
     }
 }
 
-fn first_links() -> [Option<u8>; 321]
-    ensures { result ≡ map first_link (range_with_len 0 321) }
+fn free_links() -> [Option<u8>; 321]
+    ensures { AllFree result }
 {
-    array::from_fn(first_link)
+    array::from_fn(free_link)
 }
 
 impl Chains {
@@ -59,7 +58,7 @@ impl Chains {
             body: Body::Row(RowNumber::first()),
         };
         Chains {
-            links: first_links(),
+            links: free_links(),
             nodes: [spare; 256],
             count: 0,
         }

@@ -1,7 +1,10 @@
 // A node, and what it holds of its block.
-ghost use Rattle.std.specs.Prelude.{◌≡◌, ◌<◌};
+ghost use Rattle.std.specs.Prelude.{◌≡◌, ◌<◌, Some};
 ghost use Rattle.chains.specs.Blocks.{is_number};
+ghost use Rattle.chains.specs.Faults.{no_node_left};
 
+use std::error::Error;
+use std::fmt;
 use words::{Block, CompactWord};
 
 // One of 128 rows of sixteen full words, by its number; a type of its own, as a page is.
@@ -58,3 +61,13 @@ pub(crate) struct Way {
 // All nodes are linked.
 #[derive(Clone, Copy, PartialEq, Eq, Debug)]
 pub struct NoNode;
+
+impl fmt::Display for NoNode {
+    ghost output = { λ _. Some no_node_left };
+
+    fn fmt<W: fmt::Write>(&self, f: &mut fmt::Formatter<W>) -> fmt::Result {
+        f.write_str("all nodes are linked")
+    }
+}
+
+impl Error for NoNode {}

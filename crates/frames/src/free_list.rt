@@ -6,7 +6,8 @@ ghost use Rattle.frames.specs.Lists.{occurs, due};
 use crate::stock::Stock;
 use arrayvec::ArrayVec;
 
-// Frames are kept by their places. The head of the list is its last element.
+// Frames are kept by the numbers of their places, so that the facts below speak of a list of numbers. The head of the list is its last
+// element.
 #[derive(Drop)]
 pub struct FreeListAllocator {
     pub(crate) stock: Stock,

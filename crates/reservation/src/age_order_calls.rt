@@ -85,7 +85,7 @@ impl AgeOrder {
         ensures room { array_vec_len self.new.groups ≤ 256 }
     {
         let mut lowest = 0;
-        // By index and with a counter: what an iterator lends could not be written while it runs.
+        // By index, since what an iterator lends could not be written while it runs; `lowest` is where the next group goes.
         for place in 0..self.groups.len() {
             if self.is_taken(place) {
                 self.move_down(place, lowest);

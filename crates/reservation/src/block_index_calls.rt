@@ -47,7 +47,7 @@ impl BlockIndex {
         }
     }
 
-    // The groups of a block's bucket.
+    // The groups of a block's bucket: the four words of its set, which are used up.
     pub(crate) fn groups(&self, block: Block) -> Groups
         ensures { has result.left ≡ in_bucket self.now (bucket_of block.number) }
     {

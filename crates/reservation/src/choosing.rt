@@ -42,7 +42,7 @@ impl ReservationAllocator {
         })
     }
 
-    // Any frame that is in.
+    // Any frame that is in. The steps are written out: each knows by a rule of its own that the group has one.
     fn choose_any(&self, page: Page) -> Option<Choice>
         requires { Unplaced self.now page.number }
         ensures { MatchOption result (NoneIn self.now) (λ c. Chosen self.now page.number c) }

@@ -7,6 +7,7 @@ mod tests {
     use reservation::ReservationAllocator;
     use words::Page;
 
+    // As in the tests of the TLBs: a crate for this one line would be no plainer.
     fn page(number: u32) -> Page {
         Page::of_address(u64::from(number) * 4096)
     }

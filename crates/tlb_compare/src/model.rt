@@ -36,10 +36,10 @@ impl LoadRule for OnePage {
         _entry: PlainEntry,
         pair: PlainPair,
     ) -> Result<(), AllocError> {
-        let slot = match slots.pairs.slot(pair.page) {
-            Some(slot) => slot,
-            None => slots.free_slot(),
-        };
+        let slot = slots
+            .pairs
+            .slot(pair.page)
+            .unwrap_or_else(|| slots.free_slot());
         slots.pairs.drop_page(pair.page);
         slots.pairs.add(slot, pair)
     }

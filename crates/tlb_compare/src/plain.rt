@@ -1,4 +1,4 @@
-// Pairs and entries as plain numbers, read by the formats of the words alone.
+// Pairs and entries as plain numbers, whose words are read by the formats alone, with no function of the library.
 ghost use Rattle.std.specs.Prelude.{◌≡◌, IfSome};
 ghost use Rattle.words.specs.declared.form.Form.TheVariants.{Full};
 

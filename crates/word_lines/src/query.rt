@@ -12,7 +12,8 @@ pub struct Query {
     pub offset: u64,
 }
 
-// The query that a line writes as a form, a word in hexadecimal and an offset; none where it is anything else.
+// The query that a line writes as a form, a word in hexadecimal and an offset; none where it is anything else. No `FromStr`, which is for
+// text: a line is any bytes.
 pub fn parse_line(line: &[u8]) -> Option<Query>
     ensures { result ≡ query_of line.now }
 {
@@ -20,8 +21,8 @@ pub fn parse_line(line: &[u8]) -> Option<Query>
     let form = decimal(fields.next()?)?;
     let word = hexadecimal(fields.next()?)?;
     let offset = decimal(fields.next()?)?;
-    match fields.next() {
-        None => Some(Query { form, word, offset }),
-        Some(_) => None,
-    }
+    fields
+        .next()
+        .is_none()
+        .then_some(Query { form, word, offset })
 }

@@ -1,5 +1,5 @@
-// The parts of a 64-bit address: its page, and the page's block and offset. Each is a type of its own and not one type with a bound as
-// its parameter: they have no method in common, and none may be taken for another.
+// The parts of a 64-bit address: its page, and the page's block and offset. Types of their own: one type with the width and the bound as
+// parameters would share a single `try_from`, and each other method would still stand in an `impl` of its own instance.
 ghost use Rattle.std.specs.Prelude.{◌≡◌, ◌^◌, ◌<◌, ◌≤◌, MatchResult};
 ghost use Rattle.words.specs.Layout.{page_of, block_of, offset_of, bucket_of, page_at, bit};
 

@@ -16,19 +16,18 @@ pub struct CompactWord {
 }
 
 impl CompactWord {
-    // The word with these bits; none where they are no compact word. A bit pattern is no number to convert, so no `TryFrom`, as with
-    // `f64::from_bits`.
+    // The word with these bits; none where they are no compact word. Named as `Word::from_bits`, which needs a form beside the bits and so
+    // cannot be `TryFrom`.
     pub fn from_bits(bits: u64) -> Option<CompactWord>
         ensures { Made result (is_compact bits) (λ w. w.bits ≡ bits) }
     {
-        if bits / 0x1000 % 0x10 == 0
-            && bits / 0x100_0000_0000 % 0x100 == 0
-            && bits >= 0x1_0000_0000_0000
+        if bits / 0x1000 % 0x10 != 0
+            || bits / 0x100_0000_0000 % 0x100 != 0
+            || bits < 0x1_0000_0000_0000
         {
-            Some(CompactWord { bits })
-        } else {
-            None
+            return None;
         }
+        Some(CompactWord { bits })
     }
 
     // The word of the offsets whose bits are set; none where no bit is, or a part is too large.
@@ -84,12 +83,11 @@ impl CompactWord {
     pub fn read(self, offset: Offset) -> Option<Translation>
         ensures { result ≡ said shape.Compact self.bits offset.number }
     {
-        if self.has(offset) {
-            let frame = self.frame_block() * 16 + u32::from(offset.number);
-            Some(translation_of(frame, self.attributes()))
-        } else {
-            None
+        if !self.has(offset) {
+            return None;
         }
+        let frame = self.frame_block() * 16 + u32::from(offset.number);
+        Some(translation_of(frame, self.attributes()))
     }
 
     // The word with other offsets.
@@ -128,7 +126,7 @@ impl CompactWord {
     }
 }
 
-// The offsets and some more.
+// The offsets and some more. Offsets go as the sixteen bits that the format and C have: a type for them would be taken apart at each word.
 fn added(offsets: u16, more: u16) -> u16
     ensures each { (k : ℕ) → bit result k ≡ (bit offsets k || bit more k) }
     ensures some { more ≤ result }

@@ -22,15 +22,14 @@ impl FullWord {
         FullWord { bits: 0 }
     }
 
-    // The word with these bits; none where they are no full word. No `TryFrom`, as for compact words.
+    // The word with these bits; none where they are no full word. No `TryFrom`, as for a compact word.
     pub fn from_bits(bits: u64) -> Option<FullWord>
         ensures { Made result (is_full bits) (λ w. w.bits ≡ bits) }
     {
-        if bits == 0 || bits / 0x100_0000_0000 == 0x80_0000 {
-            Some(FullWord { bits })
-        } else {
-            None
+        if bits != 0 && bits / 0x100_0000_0000 != 0x80_0000 {
+            return None;
         }
+        Some(FullWord { bits })
     }
 
     // The word of a page that is mapped.

@@ -12,6 +12,7 @@ use crate::word::Word;
 // A refusal is this number plus the fault's.
 const REFUSED: u64 = 0x8000_0000_0000_0000;
 
+// Three plain numbers, as the exported reader takes them.
 pub fn read_word(form: u64, word: u64, offset: u64) -> Result<Translation, ReadFault>
     ensures { result ≡ reading form word offset }
 {

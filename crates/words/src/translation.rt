@@ -21,13 +21,13 @@ impl Translation {
     pub fn new(frame: u32, attributes: u16) -> Option<Translation>
         ensures { Made result (in_range frame attributes) (λ t. (t.frame ≡ frame) × (t.attributes ≡ attributes)) }
     {
-        if frame < 0x1000_0000 && attributes < 0x1000 {
-            Some(Translation { frame, attributes })
-        } else {
-            None
+        if frame >= 0x1000_0000 || attributes >= 0x1000 {
+            return None;
         }
+        Some(Translation { frame, attributes })
     }
 
+    // Quotients and not a mask of the access's number: the check reasons about them without help, and the compiler makes masks of them.
     pub fn allows(self, access: Access) -> bool
         ensures { result ≡ allowed self.attributes access }
     {

@@ -7,9 +7,9 @@ use Rattle.chains.proofs.chains.Chains.new.Goals as goal
 pub invariant_of-result : goal.invariant_of-result
 invariant_of-result c =
     let n : Node = record { block = None; body = Row c.first.result } in
-    let e = c.first_links.ensures in
-    let ls = c.first_links.result in
+    let e = c.free_links.ensures in
+    let ls = c.free_links.result in
     record { wide = refl; sound = fresh_sound ls e n refl; single = fresh_single ls e n refl; kept = fresh_kept ls e n refl; counted = fresh_counted ls e n refl; held = fresh_held ls e n refl }
 
 pub returns : goal.returns
-returns c = let n : Node = record { block = None; body = Row c.first.result } in fresh_body c.first_links.result c.first_links.ensures n refl
+returns c = let n : Node = record { block = None; body = Row c.first.result } in fresh_body c.free_links.result c.free_links.ensures n refl
