@@ -11,6 +11,7 @@ use Rattle.words.specs.Reading.{translation, said}
 use Rattle.words.proofs.Flip.{one_bit}
 use Rattle.tlb.specs.declared.partial_slot.PartialSlot.{PartialSlot}
 use Rattle.tlb.specs.declared.partial_slot.PartialSlot.TheVariants.{Subblock, Single}
+use Rattle.tlb.specs.PageSlots.{page_held}
 use Rattle.tlb.specs.PartialSlots.{block_held, overlaps, Loses, Cleared, block_dropped}
 use Rattle.tlb.specs.Choices.{none_either}
 use Rattle.tlb.specs.Slots.{in_slot, Becomes, without_page}
@@ -39,11 +40,11 @@ untouched b os (Subblock c w) q f n =
     cond-true _ _ _ e ∙ cond-false _ _ _ (apart (offsets_in w.bits) os (offset_of q) (eqb-true _ 0 z) j))
     (λ e. cond-false _ _ _ e)
     (cases_Bool (c.number == block_of q))
-untouched b os (Single p t) q f n =
+untouched b os (Single s) q f n =
     ⊎_elim
-    (λ e. absurd (both_ways _ f (ap (names b os) (eqb-true p.number q e) ∙ n)))
+    (λ e. absurd (both_ways _ f (ap (names b os) (sym (eqb-true q s.page.number e)) ∙ n)))
     (λ e. cond-false _ _ _ e)
-    (cases_Bool (p.number == q))
+    (cases_Bool (q == s.page.number))
 
 -- a subblock of the block b, before and after
 module _ (b os c w q : ℕ) (same : c ≡ b) where
@@ -83,14 +84,14 @@ module _ (b os c w q : ℕ) (same : c ≡ b) where
 lost : (b os : ℕ) (s : PartialSlot) (u : Option PartialSlot) (q : ℕ) → overlaps b os s ≡ true → Loses os s u → in_slot block_held u q ≡ cond (names b os q) None (block_held s q)
 lost b os (Subblock c w) None q o l = emptied b os c.number w.bits q (eqb-true c.number b (and_parts (c.number == b) _ o).0) l
 lost b os (Subblock c w) (Some (Subblock d v)) q o (e, l) = shrunk b os c.number w.bits q (eqb-true c.number b (and_parts (c.number == b) _ o).0) d.number v.bits e l
-lost b os (Subblock c w) (Some (Single p t)) q o l = absurd l
-lost b os (Single p t) u q o l =
-    let (i, j) = and_parts (block_of p.number == b) (bit os (offset_of p.number)) o in
+lost b os (Subblock c w) (Some (Single s)) q o l = absurd l
+lost b os (Single s) u q o l =
+    let (i, j) = and_parts (block_of s.page.number == b) (bit os (offset_of s.page.number)) o in
     ap (λ x. in_slot block_held x q) (l ∙ cond-true _ _ _ j)
     ∙ ⊎_elim
-    (λ e. sym (ap (λ x. cond x None (block_held (Single p t) q)) (sym (ap (names b os) (eqb-true p.number q e)) ∙ o)))
-    (λ e. sym (ap (λ y. cond (names b os q) None y) (cond-false (p.number == q) _ _ e) ∙ none_either (names b os q)))
-    (cases_Bool (p.number == q))
+    (λ e. sym (ap (λ x. cond x None (page_held s q)) (ap (names b os) (eqb-true q s.page.number e) ∙ o)))
+    (λ e. sym (ap (λ y. cond (names b os q) None y) (cond-false (q == s.page.number) _ _ e) ∙ none_either (names b os q)))
+    (cases_Bool (q == s.page.number))
 
 -- the pages that are named are gone, and all others are as they were
 cleared : (b os : ℕ) (s : PartialSlot) (u : Option PartialSlot) → Cleared b os s u → (q : ℕ) → in_slot block_held u q ≡ cond (names b os q) None (block_held s q)

@@ -58,20 +58,20 @@ compact_slot w p b c e i q =
     ap (λ x. cond x (said form.Compact c.bits (offset_of q)) None) (ap (λ x. eqb x (block_of q)) i ∙ eqb_sym (block_of p) (block_of q))
     ∙ sym (says_said (Compact c) p q) ∙ ap (λ x. says x p q) (sym e)
 
-full_slot : (w : Word) (p r : ℕ) (t : Translation) → form_of w ≡ form.Full → says w p r ≡ Some t → (q : ℕ) → cond (eqb r q) (Some t) None ≡ says w p q
+full_slot : (w : Word) (p r : ℕ) (t : Translation) → form_of w ≡ form.Full → says w p r ≡ Some t → (q : ℕ) → cond (eqb q r) (Some t) None ≡ says w p q
 full_slot (Compact c) p r t f e q = absurd (let z : ◌≡◌ {A = ℕ} 0 1 = cc in omega arith)
 full_slot (Full w) p r t f e q =
     let own = eqb-true r p (kept (eqb r p) _ t e).0 in
     ⊎_elim
-    (λ i. cond-true _ _ _ i ∙ sym e ∙ ap (says (Full w) p) (eqb-true r q i))
-    (λ i. cond-false _ _ _ i ∙ sym (cond-false (eqb q p) _ _ (ne_eqb q p (λ d. eqb-false r q i (own ∙ sym d)))))
-    (cases_Bool (eqb r q))
+    (λ i. cond-true _ _ _ i ∙ sym e ∙ ap (says (Full w) p) (sym (eqb-true q r i)))
+    (λ i. cond-false _ _ _ i ∙ sym (cond-false (eqb q p) _ _ (ne_eqb q p (λ d. eqb-false q r i (d ∙ sym own)))))
+    (cases_Bool (eqb q r))
 
 -- the slot of an entry says what the entry says
 slot_says : (e : Entry) (p : ℕ) (t : Translation) (n : PartialSlot) → IsSlot e p t n → entry_says e p ≡ Some t → (q : ℕ) → block_held n q ≡ entry_says e q
 slot_says e p t (Subblock b w) (i, j) s q = compact_slot e.word e.page.number b.number w j i q
-slot_says e p t (Single r u) (f, i, j) s q =
-    ap (λ x. cond (eqb x q) (Some u) None) i ∙ ap (λ x. cond (eqb p q) (Some x) None) j ∙ full_slot e.word e.page.number p t f s q
+slot_says e p t (Single n) (f, (i, j)) s q =
+    ap (λ x. cond (eqb q x) (Some n.translation) None) i ∙ ap (λ x. cond (eqb q p) (Some x) None) j ∙ full_slot e.word e.page.number p t f s q
 
 pub says_entry : (e : Entry) (p : ℕ) (t : Translation) (n : PartialSlot) → entry_says e p ≡ Some t → IsSlot e p t n → Says block_held e p t n
 says_entry e p t n s m = record { own = slot_says e p t n m s p ∙ s; within = λ q x h. sym (slot_says e p t n m s q) ∙ h }

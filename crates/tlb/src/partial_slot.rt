@@ -7,6 +7,7 @@ ghost use Rattle.tlb.specs.PartialLaws;
 
 use crate::entry::Entry;
 use crate::fill::Fill;
+use crate::page_slot::PageSlot;
 use crate::slot::Slot;
 use words::{Block, CompactWord, Page, Translation, Word};
 
@@ -14,14 +15,8 @@ use words::{Block, CompactWord, Page, Translation, Word};
 // a single page may be on any frame.
 #[derive(Clone, Copy)]
 pub enum PartialSlot {
-    Subblock {
-        block: Block,
-        word: CompactWord,
-    },
-    Single {
-        page: Page,
-        translation: Translation,
-    },
+    Subblock { block: Block, word: CompactWord },
+    Single(PageSlot),
 }
 
 impl PartialSlot {
@@ -32,8 +27,8 @@ impl PartialSlot {
         match *self {
             PartialSlot::Subblock { block: own, word } => own == block
                 && word.offsets() & offsets != 0,
-            PartialSlot::Single { page, .. } => page.block() == block
-                && page.offset().is_in(offsets),
+            PartialSlot::Single(slot) => slot.page.block() == block
+                && slot.page.offset().is_in(offsets),
         }
     }
 
@@ -46,8 +41,8 @@ impl PartialSlot {
                 let word = word.without_all(offsets)?;
                 Some(PartialSlot::Subblock { block, word })
             }
-            PartialSlot::Single { page, .. } if page.offset().is_in(offsets) => None,
-            PartialSlot::Single { .. } => Some(self),
+            PartialSlot::Single(slot) if slot.page.offset().is_in(offsets) => None,
+            PartialSlot::Single(_) => Some(self),
         }
     }
 }
@@ -78,10 +73,7 @@ impl Slot for PartialSlot {
                     None
                 }
             }
-            PartialSlot::Single {
-                page: own,
-                translation,
-            } => (own == page).then_some(translation),
+            PartialSlot::Single(slot) => slot.answer(page),
         }
     }
 
@@ -105,7 +97,7 @@ impl Fill for PartialSlot {
                 block: entry.page.block(),
                 word,
             },
-            Word::Full(_) => PartialSlot::Single { page, translation },
+            Word::Full(_) => PartialSlot::Single(PageSlot { page, translation }),
         }
     }
 
