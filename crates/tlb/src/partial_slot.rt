@@ -64,15 +64,11 @@ impl Slot for PartialSlot {
     ghost drops = { Clearing.drops };
 
     fn answer(&self, page: Page) -> Option<Translation> {
-        match *self {
-            // The check makes no proof yet of a guard that compares the block bound here.
-            PartialSlot::Subblock { block, word } => {
-                if block == page.block() {
-                    word.read(page.offset())
-                } else {
-                    None
-                }
+        match self {
+            PartialSlot::Subblock { block, word } if *block == page.block() => {
+                word.read(page.offset())
             }
+            PartialSlot::Subblock { .. } => None,
             PartialSlot::Single(slot) => slot.answer(page),
         }
     }
