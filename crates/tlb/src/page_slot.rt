@@ -27,7 +27,7 @@ impl Slot for PageSlot {
     }
 
     fn drop_page(slot: &mut Option<PageSlot>, page: Page) {
-        if slot.is_some_and(|held| held.page == page) {
+        if slot.as_ref().is_some_and(|held| held.page == page) {
             *slot = None;
         }
     }

@@ -24,8 +24,8 @@ impl PartialSlot {
     fn overlaps(&self, block: Block, offsets: u16) -> bool
         ensures { result ≡ overlaps block.number offsets self.now }
     {
-        match *self {
-            PartialSlot::Subblock { block: own, word } => own == block
+        match self {
+            PartialSlot::Subblock { block: own, word } => *own == block
                 && word.offsets() & offsets != 0,
             PartialSlot::Single(slot) => slot.page.block() == block
                 && slot.page.offset().is_in(offsets),
@@ -51,7 +51,9 @@ impl PartialSlot {
 fn clear(slot: &mut Option<PartialSlot>, block: Block, offsets: u16)
     ensures { Becomes (Cleared block.number offsets) slot.old slot.new }
 {
-    if let Some(held) = slot.filter(|held| held.overlaps(block, offsets)) {
+    if let Some(held) = slot.as_ref()
+        && held.overlaps(block, offsets)
+    {
         *slot = held.without_all(offsets);
     }
 }
