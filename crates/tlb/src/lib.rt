@@ -17,7 +17,9 @@ mod two_level;
 pub use entry::Entry;
 pub use fill::Fill;
 pub use hand::Hand;
-pub use laws::{one_page_means, partial_subblock_means};
+pub use laws::{
+    one_page_first_means, one_page_means, partial_subblock_first_means, partial_subblock_means,
+};
 pub use page_slot::PageSlot;
 pub use partial_slot::PartialSlot;
 pub use search::{find, place, purge};
