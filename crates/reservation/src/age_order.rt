@@ -13,6 +13,7 @@ pub struct AgeOrder {
     pub(crate) places: [Option<u16>; 256],
     pub(crate) groups: ArrayVec<u8, 512>,
     pub(crate) waiting: BitSet<8>,
+    // what the capacity says, for the facts that cite it
     ghost few: { array_vec_len groups ≤ 512 },
     ghost placed: { (g p : ℕ) → slice_index_or places g None ≡ Some p → (p < array_vec_len groups) × (slice_index groups.items p ≡ g) },
     ghost waits: { (p : ℕ) → has waiting p ≡ true → slice_index_or places (slice_index groups.items p) None ≡ Some p },

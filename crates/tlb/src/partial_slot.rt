@@ -47,7 +47,7 @@ impl PartialSlot {
     }
 }
 
-// Clears the block's pages at the offsets whose bits are set.
+// Clears the block's pages at the offsets whose bits are set; a struct of the two would be made only to be taken apart at each slot.
 fn clear(slot: &mut Option<PartialSlot>, block: Block, offsets: u16)
     ensures { Becomes (Cleared block.number offsets) slot.old slot.new }
 {

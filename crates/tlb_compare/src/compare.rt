@@ -23,6 +23,7 @@ pub fn compare<T: Tlb + Drop, M: Model + Drop>(mut tlb: T, mut model: M) -> Resu
             call,
             fault,
         })?;
+        // a count that is the answer, not an index
         hits += u32::from(hit);
     }
     Ok(hits)
