@@ -15,7 +15,7 @@ const FREE: usize = 320;
 
 // A link leads to the next node, where there is one; by its number, since there is no heap. The links of the 256 nodes are followed by the
 // heads of the 64 chains and of the free nodes: in one array, so that a link is written alike in a node and in a head. A node that has a
-// block is on the chain of the block's bucket.
+// block is on the chain of the block's bucket. The count of those is kept, so that none has to be counted.
 #[derive(Drop)]
 pub struct Chains {
     links: [Option<u8>; 321],

@@ -29,7 +29,8 @@ pub enum Body {
     Row(RowNumber),
 }
 
-// A node that has no block is free; what it held last is of no account.
+// A node that has no block is free. It keeps a body then too, since any node can be asked for what it holds: with an `Option` of both that
+// question could fail.
 #[derive(Clone, Copy, PartialEq, Eq, Debug)]
 pub struct Node {
     pub block: Option<Block>,

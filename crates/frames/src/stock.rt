@@ -45,7 +45,7 @@ impl Stock {
     }
 }
 
-// There is no place of a number of 4,096 or more.
+// There is no place of a number of 4,096 or more. Its own `try_from`, as pages and offsets have: their widths differ.
 impl TryFrom<u32> for Place {
     type Error = BadNumber;
 

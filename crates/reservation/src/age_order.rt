@@ -6,6 +6,7 @@ ghost use Rattle.reservation.specs.Sets.{has};
 use crate::bit_set::BitSet;
 use arrayvec::ArrayVec;
 
+// By place: the group that has it, and, as a set whose first is found in a few steps, whether that group waits.
 // A group gets the next place when it is reserved, so places rise from the oldest to the youngest. There are more places than
 // groups; when all are used, the groups that are still there move down. A group waits when it has a frame to give.
 #[derive(Drop)]

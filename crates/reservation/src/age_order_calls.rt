@@ -18,7 +18,8 @@ impl AgeOrder {
         }
     }
 
-    // Puts a group last or keeps it where it is, and notes whether it waits; without a turn it leaves.
+    // Puts a group last or keeps it where it is, and notes whether it waits; without a turn it leaves. An `Option` of the flag, since what it
+    // says is just that: of a group that has no turn there is nothing to note.
     pub(crate) fn update(&mut self, group: u8, turn: Option<bool>)
         ensures { Updated self.old group turn self.new }
     {
@@ -58,7 +59,7 @@ impl AgeOrder {
         self.append(group, wait);
     }
 
-    // Sees that a place is free.
+    // Sees that a place is free. That the order stays is a relation of before and after, so it stands in each contract and no type has it.
     fn make_room(&mut self)
         ensures same { SameOrder self.old self.new }
         ensures room { array_vec_len self.new.groups < 512 }

@@ -30,6 +30,7 @@ impl<const N: usize> BitSet<N> {
         }
     }
 
+    // A bit of a word of 64, as `Offset::is_in` tests one of 16: Rust has no one shift for both.
     pub(crate) fn has(&self, number: usize) -> bool
         requires { number < 64 * N }
         ensures { result ≡ has self.now number }

@@ -38,7 +38,7 @@ impl BlockIndex {
         self.put(new, group, true);
     }
 
-    // Takes the group into the bucket of the block that it is reserved for, or out.
+    // Takes the group into the bucket of the block that it is reserved for, or out; one method for both, as the set itself has.
     fn put(&mut self, usage: Usage, group: u8, on: bool)
         ensures { (h k : ℕ) → in_bucket self.new h k ≡ put_in (bucket_use h usage) (in_bucket self.old h) group on k }
     {

@@ -42,28 +42,19 @@ impl ReservationAllocator {
         })
     }
 
-    // Any frame that is in. The steps are written out: each knows by a rule of its own that the group has one.
+    // Any frame that is in.
     fn choose_any(&self, page: Page) -> Option<Choice>
         requires { Unplaced self.now page.number }
         ensures { MatchOption result (NoneIn self.now) (λ c. Chosen self.now page.number c) }
     {
         if let Some(group) = self.lowest_spare() {
-            return Some(Choice {
-                step: Step::Spare,
-                spot: self.lowest_in(group),
-            });
+            return Some(self.any_in(group, Step::Spare));
         }
         if let Some(group) = self.lowest_open() {
-            return Some(Choice {
-                step: Step::Breaks,
-                spot: self.lowest_in(group),
-            });
+            return Some(self.any_in(group, Step::Breaks));
         }
         let group = self.oldest()?;
-        Some(Choice {
-            step: Step::BreaksOldest,
-            spot: self.lowest_in(group),
-        })
+        Some(self.any_in(group, Step::BreaksOldest))
     }
 
     // The group that is reserved for the block.
@@ -103,15 +94,17 @@ impl ReservationAllocator {
         self.order.oldest()
     }
 
-    // The lowest frame that is in, of a group that has one.
-    fn lowest_in(&self, group: u8) -> Spot
+    // The lowest frame that is in, of a group that has one, by a step.
+    fn any_in(&self, group: u8, step: Step) -> Choice
         requires { has_in (group_of self.now group) ≡ true }
-        ensures group { result.group ≡ group }
-        ensures within { In (group_of self.now group) result.offset.number }
+        ensures step { result.step ≡ step }
+        ensures group { result.spot.group ≡ group }
+        ensures within { In (group_of self.now group) result.spot.offset.number }
     {
-        Spot {
-            group,
-            offset: self.groups[usize::from(group)].lowest_in(),
+        let offset = self.groups[usize::from(group)].lowest_in();
+        Choice {
+            step,
+            spot: Spot { group, offset },
         }
     }
 }

@@ -2,7 +2,7 @@
 ghost use Rattle.std.specs.Prelude.{◌<◌};
 ghost use Rattle.tlb_compare.specs.declared.calls.Call.TheVariants.{Probe, Load, Purge, Flush};
 
-use crate::plain::PlainEntry;
+use crate::plain::{PlainEntry, PlainPair};
 use crate::random::Random;
 use words::Form;
 
@@ -58,11 +58,11 @@ fn draw_load(random: &mut Random) -> Call
 
 // The entry of the page alone.
 fn full(random: &mut Random, page: u64) -> PlainEntry {
-    PlainEntry {
+    PlainEntry::from(PlainPair {
         page,
-        form: Form::Full,
-        word: 1 << 63 | random.below(0x1000_0000) << 12 | random.below(0x1000),
-    }
+        frame: random.below(0x1000_0000),
+        attributes: random.below(0x1000),
+    })
 }
 
 // An entry of the page and of others of its block.

@@ -7,6 +7,7 @@ mod tests {
     use tlb::{Entry, OnePageTlb, PartialSubblockTlb, Tlb, TwoLevelTlb};
     use words::{CompactWord, FullWord, Page, Translation, Word};
 
+    // As in the tests of the reservation: a crate for this one line would be no plainer.
     fn page(number: u32) -> Page {
         Page::of_address(u64::from(number) * 4096)
     }

@@ -27,7 +27,7 @@ impl Translation {
         Some(Translation { frame, attributes })
     }
 
-    // Quotients and not a mask of the access's number: the check reasons about them without help, and the compiler makes masks of them.
+    // Each access divides by a constant, which is a shift; by the number of the access it would be a division.
     pub fn allows(self, access: Access) -> bool
         ensures { result ≡ allowed self.attributes access }
     {
