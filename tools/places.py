@@ -17,6 +17,7 @@ PATTERNS = {
         'an enum with a case for nothing': r'enum \w+ \{\s*(?://[^\n]*\n\s*)?(?:Empty|Nothing|Absent|Missing)\b',
         'None or Err handed on by let-else': r'let (?:Some|Ok)\([^)]*\) = [^;{]*? else \{\s*return (?:None|Err\([^;]*\));',
         'an error that is matched and wrapped again': r'Err\(\w+\) => (?:return Err\(|Response::Refused)',
+        'Some or None by an if': r'\} else \{\s*None\s*\}',
         'flags kept beside values': r'\b(?:linked|members): (?:\[bool; \d+\]|BitSet<\d+>)',
         'a flag passed with the value that it is for': r'\b(?:stays|wait): bool, \w+: bool',
         'a number for a kind': r'const (?:COMPACT|FULL): u64 = \d;|\bform: (?:COMPACT|FULL)\b|form: u64,\n    pub word: u64,\n\}\n\nimpl PlainEntry',
