@@ -6,8 +6,8 @@ ghost use Rattle.frames.specs.Lists.{occurs, due};
 use crate::stock::Stock;
 use arrayvec::ArrayVec;
 
-// Frames are kept by the numbers of their places, so that the facts below speak of a list of numbers. The head of the list is its last
-// element.
+// Frames are kept by the numbers of their places: a vector of places would be read through a map in each fact below, and no function has to
+// test a bound again. The head of the list is its last element.
 #[derive(Drop)]
 pub struct FreeListAllocator {
     pub(crate) stock: Stock,

@@ -41,17 +41,17 @@ none_left s none f t =
 
 -- new groups
 abbrev pub open_group : Group
-open_group = record { usage = Open; out = 0 }
+open_group = record { usage = Open; out = record { bits = 0 } }
 
-pub fresh : (P : ℕ → Group → Type 0) → ((k : ℕ) → k < 256 → P k open_group) → ((k : ℕ) → 256 ≤ k → P k (record { usage = Broken; out = 65535 })) → (k : ℕ) → P k (nth_group (replicate 256 open_group) k)
+pub fresh : (P : ℕ → Group → Type 0) → ((k : ℕ) → k < 256 → P k open_group) → ((k : ℕ) → 256 ≤ k → P k (record { usage = Broken; out = record { bits = 65535 } })) → (k : ℕ) → P k (nth_group (replicate 256 open_group) k)
 fresh P a b k = ⊎_elim
     (λ l. subst (P k) (sym (get_or-replicate 256 k open_group _ l)) (a k l))
     (λ l. subst (P k) (sym (get_or_past (replicate 256 open_group) k _ (simp length-replicate l))) (b k l))
     (cases_lt k 256)
 
-pub new_in : (n f : ℕ) → ((leb n f && ltb (f - n) 4096) && bit (nth_group (replicate 256 open_group) ((f - n) / 16)).out ((f - n) % 16)) ≡ false
+pub new_in : (n f : ℕ) → ((leb n f && ltb (f - n) 4096) && bit (nth_group (replicate 256 open_group) ((f - n) / 16)).out.bits ((f - n) % 16)) ≡ false
 new_in n f = ⊎_elim
     (λ t. let l = ltb-true (f - n) 4096 (and_parts _ _ t).1 in
-    and_right _ _ (fresh (λ k x. k < 256 → bit x.out ((f - n) % 16) ≡ false) (λ k a b. no_bit ((f - n) % 16)) (λ k a b. absurd (omega arith)) ((f - n) / 16) (omega arith)))
+    and_right _ _ (fresh (λ k x. k < 256 → bit x.out.bits ((f - n) % 16) ≡ false) (λ k a b. no_bit ((f - n) % 16)) (λ k a b. absurd (omega arith)) ((f - n) / 16) (omega arith)))
     (λ e. and_left _ _ e)
     (cases_Bool (leb n f && ltb (f - n) 4096))

@@ -47,8 +47,8 @@ open_group_gives_offset s u p g (Ok f) o none (c, chosen, taken) =
       ap (λ x. block_use (block_of p) (group_of u x).usage) e ∙ subst (λ x. UsedAs p x (group_of u c.spot.group).usage) t taken.usage,
     )
 open_group_gives_offset s u p g (Err e) o none (all, same) = absurd (
-    let z = eqb-true (group_of s g).out 0 (sym (s.used g) ∙ o) in
-    let l = eqb-true (group_of s g).out 65535 (not-false _ (all g)) in
+    let z = eqb-true (group_of s g).out.bits 0 (sym (s.used g) ∙ o) in
+    let l = eqb-true (group_of s g).out.bits 65535 (not-false _ (all g)) in
     omega arith)
 
 -- two first numbers by one test are one
@@ -61,7 +61,7 @@ first_once f a j k x y = ⊎_elim (λ e. e)
 
 -- a frame that is in shows that its group has one
 in_has : (x : Group) (k : ℕ) → In x k → has_in x ≡ true
-in_has x k (l, e) = not_from_false (eqb x.out 65535) (ne_eqb x.out 65535 (λ d. both_ways _ e (ap (λ w. bit w k) d ∙ full_bit k l)))
+in_has x k (l, e) = not_from_false (eqb x.out.bits 65535) (ne_eqb x.out.bits 65535 (λ d. both_ways _ e (ap (λ w. bit w k) d ∙ full_bit k l)))
 
 -- the longest reserved is one group
 longest_once : (s : ReservationAllocator) (g h : ℕ) → Longest s g → Longest s h → g ≡ h
@@ -77,7 +77,7 @@ abbrev At : ReservationAllocator → ℕ → Step → ℕ → ℕ → Type 0
 At s p t g k = Rule s p t g k × In (group_of s g) k
 
 not_unplaced : (s : ReservationAllocator) (p : ℕ) (t : Step) (g k : ℕ) → own_group t ≡ true → At s p t g k → Unplaced s p → ⊥
-not_unplaced s p Kept g k o ((r, e), (l, b)) u = both_ways _ b (ap (bit (group_of s g).out) e ∙ u.kept g r)
+not_unplaced s p Kept g k o ((r, e), (l, b)) u = both_ways _ b (ap (bit (group_of s g).out.bits) e ∙ u.kept g r)
 not_unplaced s p Reserves g k o ((none, f, e), i) u = both_ways _ (u.reserves none g) f.here
 not_unplaced s p Spare g k o r u = both_ways false refl o
 not_unplaced s p Breaks g k o r u = both_ways false refl o

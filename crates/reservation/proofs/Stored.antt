@@ -148,22 +148,22 @@ frame_offset s g k l = omega arith
 pub frame_stock : (s : ReservationAllocator) (g k : ℕ) → g < 256 → k < 16 → group_stock s (frame_at s g k) ≡ true
 frame_stock s g k h l = and_from _ _ (le-leb s.stock.first (frame_at s g k) (omega arith)) (lt-ltb (frame_at s g k - s.stock.first) 4096 (omega arith))
 
-pub frame_out : (s : ReservationAllocator) (g k : ℕ) → g < 256 → k < 16 → group_out s (frame_at s g k) ≡ bit (group_of s g).out k
+pub frame_out : (s : ReservationAllocator) (g k : ℕ) → g < 256 → k < 16 → group_out s (frame_at s g k) ≡ bit (group_of s g).out.bits k
 frame_out s g k h l =
-    ap (λ x. x && bit (group_of s ((frame_at s g k - s.stock.first) / 16)).out ((frame_at s g k - s.stock.first) % 16)) (frame_stock s g k h l)
-    ∙ ap₂ (λ x y. bit (group_of s x).out y) (frame_group s g k l) (frame_offset s g k l)
+    ap (λ x. x && bit (group_of s ((frame_at s g k - s.stock.first) / 16)).out.bits ((frame_at s g k - s.stock.first) % 16)) (frame_stock s g k h l)
+    ∙ ap₂ (λ x y. bit (group_of s x).out.bits y) (frame_group s g k l) (frame_offset s g k l)
 
 -- whether a frame is out, where the first frame is n
 abbrev out_from : ReservationAllocator → ℕ → ℕ → Bool
-out_from u n q = (leb n q && ltb (q - n) 4096) && bit (group_of u ((q - n) / 16)).out ((q - n) % 16)
+out_from u n q = (leb n q && ltb (q - n) 4096) && bit (group_of u ((q - n) / 16)).out.bits ((q - n) % 16)
 
 -- just that frame went out, or came in
 pub out_changed : (s u : ReservationAllocator) (g k : ℕ) (b : Bool) → g < 256 → k < 16 → OnlyGroup s g u → OutAt (group_of s g) k b (group_of u g) → group_out u ≡ at (group_out s) (frame_at s g k) b
 out_changed s u g k b h l only out = fun_ext (λ q. ap (λ z. out_from u z.first q) only.stock ∙ ⊎_elim
     (λ e. ap (out_from u s.stock.first) e
-    ∙ ap (λ x. x && bit (group_of u ((frame_at s g k - s.stock.first) / 16)).out ((frame_at s g k - s.stock.first) % 16)) (frame_stock s g k h l)
-    ∙ ap₂ (λ x y. bit (group_of u x).out y) (frame_group s g k l) (frame_offset s g k l)
-    ∙ ap (λ f. f k) out ∙ at_here (bit (group_of s g).out) k b k refl
+    ∙ ap (λ x. x && bit (group_of u ((frame_at s g k - s.stock.first) / 16)).out.bits ((frame_at s g k - s.stock.first) % 16)) (frame_stock s g k h l)
+    ∙ ap₂ (λ x y. bit (group_of u x).out.bits y) (frame_group s g k l) (frame_offset s g k l)
+    ∙ ap (λ f. f k) out ∙ at_here (bit (group_of s g).out.bits) k b k refl
     ∙ sym (at_here (group_out s) (frame_at s g k) b q e))
     (λ ne. elsewhere q ne ∙ sym (at_there (group_out s) (frame_at s g k) b q ne))
     (cases_eq q (frame_at s g k)))
@@ -174,9 +174,9 @@ out_changed s u g k b h l only out = fun_ext (λ q. ap (λ z. out_from u z.first
         (⊎_elim
         (λ i. let a = leb-true s.stock.first q (and_parts _ _ t).0 in
         let other : (q - s.stock.first) % 16 ≡ k → ⊥ = λ j. ne (omega arith) in
-        ap (λ x. bit (group_of u x).out ((q - s.stock.first) % 16)) i ∙ ap (λ f. f ((q - s.stock.first) % 16)) out
-        ∙ at_there (bit (group_of s g).out) k b ((q - s.stock.first) % 16) other ∙ ap (λ x. bit (group_of s x).out ((q - s.stock.first) % 16)) (sym i))
-        (λ i. ap (λ x. bit x.out ((q - s.stock.first) % 16)) (only.others ((q - s.stock.first) / 16) i))
+        ap (λ x. bit (group_of u x).out.bits ((q - s.stock.first) % 16)) i ∙ ap (λ f. f ((q - s.stock.first) % 16)) out
+        ∙ at_there (bit (group_of s g).out.bits) k b ((q - s.stock.first) % 16) other ∙ ap (λ x. bit (group_of s x).out.bits ((q - s.stock.first) % 16)) (sym i))
+        (λ i. ap (λ x. bit x.out.bits ((q - s.stock.first) % 16)) (only.others ((q - s.stock.first) / 16) i))
         (cases_eq ((q - s.stock.first) / 16) g)))
         (λ f. and_left (group_stock s q) _ f ∙ sym (and_left (group_stock s q) _ f))
         (cases_Bool (group_stock s q))
@@ -198,25 +198,25 @@ took s u p c f old x chosen was out used stock stored order frame =
     record {
       frame = frame;
       only = only_group s u c.spot.group x stock stored;
-      out = ap (λ y. bit y.out) e ∙ out ∙ ap (λ y. at (bit y.out) c.spot.offset.number true) was;
+      out = ap (λ y. bit y.out.bits) e ∙ out ∙ ap (λ y. at (bit y.out.bits) c.spot.offset.number true) was;
       usage = subst (λ y. UsedAs p c.step y.usage) (sym e) used;
       order = order_after s u p c.step c.spot.group c.spot.offset.number x chosen.rule used order;
     }
 
 -- a group that a frame comes back to
-module _ (s : ReservationAllocator) (g k : ℕ) (old x : Group) (was : old ≡ group_of s g) (out : bit (group_of s g).out k ≡ true) (back : Returned old k x) where
+module _ (s : ReservationAllocator) (g k : ℕ) (old x : Group) (was : old ≡ group_of s g) (out : bit (group_of s g).out.bits k ≡ true) (back : Returned old k x) where
   -- it opens, or is used as before
-  by_usage : (P : Type 0) → (is_open x ≡ true → eqb x.out 0 ≡ true → P) → (x.usage ≡ (group_of s g).usage → eqb x.out 0 ≡ false → P) → P
+  by_usage : (P : Type 0) → (is_open x ≡ true → eqb x.out.bits 0 ≡ true → P) → (x.usage ≡ (group_of s g).usage → eqb x.out.bits 0 ≡ false → P) → P
   by_usage P a b = ⊎_elim
       (λ t. a (subst (λ y. MatchBool y (is_open x ≡ true) (x.usage ≡ old.usage)) t back.usage) t)
       (λ f. b (subst (λ y. MatchBool y (is_open x ≡ true) (x.usage ≡ old.usage)) f back.usage ∙ ap (λ y. y.usage) was) f)
-      (cases_Bool (eqb x.out 0))
+      (cases_Bool (eqb x.out.bits 0))
 
   not_open : open_use (group_of s g).usage ≡ false
-  not_open = s.used g ∙ bit_some (group_of s g).out k out
+  not_open = s.used g ∙ bit_some (group_of s g).out.bits k out
 
-  pub back_used : is_open x ≡ eqb x.out 0
-  back_used = by_usage (is_open x ≡ eqb x.out 0) (λ a t. a ∙ sym t) (λ e f. ap open_use e ∙ not_open ∙ sym f)
+  pub back_used : is_open x ≡ eqb x.out.bits 0
+  back_used = by_usage (is_open x ≡ eqb x.out.bits 0) (λ a t. a ∙ sym t) (λ e f. ap open_use e ∙ not_open ∙ sym f)
 
   pub back_single : (h : ℕ) → same_block x.usage (group_of s h).usage ≡ true → h ≡ g
   back_single h e = by_usage (h ≡ g) (λ a t. absurd (open_alone x.usage (group_of s h).usage a e))

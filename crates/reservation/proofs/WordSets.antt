@@ -127,3 +127,22 @@ lowest_clear n w l =
 -- a word with a bit is not zero
 pub bit_some : (w k : ℕ) → bit w k ≡ true → eqb w 0 ≡ false
 bit_some w k h = ne_eqb w 0 (λ e. both_ways _ (ap (λ x. bit x k) e ∙ no_bit k) h)
+
+-- one offset put into a set of bits, or taken out of it
+pub one_with : (w m r k : ℕ) → m ≡ 2 ^ k → ((j : ℕ) → bit r j ≡ (bit w j || bit m j)) → bit r ≡ at (bit w) k true
+one_with w m r k e each = fun_ext (λ j. each j ∙ ap (λ x. bit w j || bit x j) e ∙ ap (λ b. bit w j || b) (one_bit k j) ∙ both (bit w j) (eqb j k))
+  where
+    both : (b c : Bool) → (b || c) ≡ cond c true b
+    both true true = refl
+    both true false = refl
+    both false true = refl
+    both false false = refl
+
+pub one_without : (w m r k : ℕ) → m ≡ 2 ^ k → ((j : ℕ) → bit r j ≡ (bit w j && not (bit m j))) → bit r ≡ at (bit w) k false
+one_without w m r k e each = fun_ext (λ j. each j ∙ ap (λ x. bit w j && not (bit x j)) e ∙ ap (λ b. bit w j && not b) (one_bit k j) ∙ both (bit w j) (eqb j k))
+  where
+    both : (b c : Bool) → (b && not c) ≡ cond c false b
+    both true true = refl
+    both true false = refl
+    both false true = refl
+    both false false = refl

@@ -52,7 +52,7 @@ is_broken g = broken_use g.usage
 
 -- not all of the sixteen frames are out
 abbrev pub has_in : Group → Bool
-has_in g = not (g.out == 65535)
+has_in g = not (g.out.bits == 65535)
 
 abbrev pub is_spare : Group → Bool
 is_spare g = is_broken g && has_in g
@@ -66,17 +66,17 @@ turn_of g = then_some (is_reserved g) (has_in g)
 
 -- the frame at the offset k is in
 abbrev pub In : Group → ℕ → Type 0
-In g k = (k < 16) × (bit g.out k ≡ false)
+In g k = (k < 16) × (bit g.out.bits k ≡ false)
 
 -- the group g of a row; past the last there is nothing to take
 abbrev pub nth_group : List Group → ℕ → Group
-nth_group gs g = slice_index_or gs g (record { usage = Broken; out = 65535 })
+nth_group gs g = slice_index_or gs g (record { usage = Broken; out = record { bits = 65535 } })
 
 -- just the frame at the offset k went out, or came in
 abbrev pub OutAt : Group → ℕ → Bool → Group → Type 0
-OutAt g k b h = bit h.out ≡ at (bit g.out) k b
+OutAt g k b h = bit h.out.bits ≡ at (bit g.out.bits) k b
 
 -- the frame at the offset k came in: where all are in, the group is open, else it is used as before
 pub record Returned (g : Group) (k : ℕ) (h : Group) : Type 0 where
   pub out : OutAt g k false h
-  pub usage : MatchBool (h.out == 0) (is_open h ≡ true) (h.usage ≡ g.usage)
+  pub usage : MatchBool (h.out.bits == 0) (is_open h ≡ true) (h.usage ≡ g.usage)

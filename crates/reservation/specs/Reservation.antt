@@ -28,7 +28,7 @@ abbrev pub group_stock : ReservationAllocator → ℕ → Bool
 group_stock s = in_stock s.stock.first
 
 abbrev pub group_out : ReservationAllocator → ℕ → Bool
-group_out s f = group_stock s f && bit (group_of s ((f - s.stock.first) / 16)).out ((f - s.stock.first) % 16)
+group_out s f = group_stock s f && bit (group_of s ((f - s.stock.first) / 16)).out.bits ((f - s.stock.first) % 16)
 
 -- no group is reserved for the block; none is open; none is broken and has a frame in; none has a frame in
 abbrev pub NoGroup : ReservationAllocator → ℕ → Type 0
@@ -50,7 +50,7 @@ NoneIn s = (g : ℕ) → has_in (group_of s g) ≡ false
 
 -- the first two steps have no frame for the page: that of its block's group is out; and where its block has no group, none is open
 pub record Unplaced (s : ReservationAllocator) (p : ℕ) : Type 0 where
-  pub kept : (g : ℕ) → block_use (block_of p) (group_of s g).usage ≡ true → bit (group_of s g).out (offset_of p) ≡ true
+  pub kept : (g : ℕ) → block_use (block_of p) (group_of s g).usage ≡ true → bit (group_of s g).out.bits (offset_of p) ≡ true
   pub reserves : NoGroup s (block_of p) → NoOpen s
 
 -- of the reserved groups with a frame in, g was reserved first

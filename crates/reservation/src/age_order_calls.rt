@@ -86,7 +86,7 @@ impl AgeOrder {
         ensures room { array_vec_len self.new.groups ≤ 256 }
     {
         let mut lowest = 0;
-        // By index, since what an iterator lends could not be written while it runs; `lowest` is where the next group goes.
+        // By index: the closure of a `retain` would have to count as well, and to write the places and the set as it goes.
         for place in 0..self.groups.len() {
             if self.is_taken(place) {
                 self.move_down(place, lowest);

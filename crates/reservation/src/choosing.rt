@@ -13,7 +13,7 @@ use words::{Block, Page};
 
 impl ReservationAllocator {
     pub(crate) fn is_out(&self, spot: Spot) -> bool
-        ensures { result ≡ bit (group_of self.now spot.group).out spot.offset.number }
+        ensures { result ≡ bit (group_of self.now spot.group).out.bits spot.offset.number }
     {
         self.groups[usize::from(spot.group)].is_out(spot.offset)
     }
@@ -74,7 +74,7 @@ impl ReservationAllocator {
 
     fn lowest_open(&self) -> Option<u8>
         ensures first { MatchOption result (NoOpen self.now) (λ g. FirstFrom (λ h. is_open (group_of self.now h)) 0 g) }
-        ensures whole { IfSome result (λ g. (group_of self.now g).out ≡ 0) }
+        ensures whole { IfSome result (λ g. (group_of self.now g).out.bits ≡ 0) }
     {
         lowest(&self.open_groups)
     }

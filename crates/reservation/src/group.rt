@@ -1,6 +1,6 @@
 // A group of sixteen frames.
 use crate::spot::Spot;
-use words::Block;
+use words::{Block, OffsetSet};
 
 // What a group is used for.
 #[derive(Clone, Copy, PartialEq, Eq, Debug)]
@@ -13,11 +13,11 @@ pub enum Usage {
     Broken,
 }
 
-// `out` has one bit for each frame that is out, offset 0 in bit 0.
+// `out` has the offsets of the frames that are out.
 #[derive(Clone, Copy, PartialEq, Eq, Debug)]
 pub struct Group {
     pub usage: Usage,
-    pub out: u16,
+    pub out: OffsetSet,
 }
 
 // How a frame is found for a page, by the steps in their order. A choice names its step, since the rules and the laws speak of it.

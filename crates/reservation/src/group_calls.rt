@@ -1,23 +1,10 @@
 // What a group has in, and what is left when a frame goes out or comes in.
 ghost use Rattle.std.specs.Prelude.{◌≡◌, true, false, ◌==◌};
 ghost use Rattle.words.specs.Layout.{bit};
-ghost use Rattle.words.specs.Points.{at};
 ghost use Rattle.reservation.specs.Groups.{is_open, is_reserved, is_spare, has_in, turn_of, block_use, In, OutAt, Returned};
 
 use crate::group::{Group, Usage};
-use words::{Block, Offset};
-
-// The bits with that of one offset set or cleared. Apart from `with_bit`: through 64 bits it would be a cast and a bound more, and no plainer.
-fn with_offset(bits: u16, offset: Offset, on: bool) -> u16
-    ensures each { bit result ≡ at (bit bits) offset.number on }
-    ensures some { on ≡ true → (result == 0) ≡ false }
-{
-    if on {
-        bits | offset.bit()
-    } else {
-        bits & !offset.bit()
-    }
-}
+use words::{Block, Offset, OffsetSet};
 
 impl Group {
     pub(crate) fn is_open(self) -> bool
@@ -48,7 +35,7 @@ impl Group {
     pub(crate) fn has_in(self) -> bool
         ensures { result ≡ has_in self }
     {
-        self.out != 0xffff
+        self.out.bits != 0xffff
     }
 
     // Whether a reserved group waits for its turn to give a frame.
@@ -59,9 +46,9 @@ impl Group {
     }
 
     pub(crate) fn is_out(self, offset: Offset) -> bool
-        ensures { result ≡ bit self.out offset.number }
+        ensures { result ≡ bit self.out.bits offset.number }
     {
-        offset.is_in(self.out)
+        self.out.has(offset)
     }
 
     // The lowest offset whose frame is in.
@@ -70,7 +57,7 @@ impl Group {
         ensures { In self result.number }
     {
         Offset {
-            number: self.out.trailing_ones() as u8,
+            number: self.out.bits.trailing_ones() as u8,
         }
     }
 
@@ -78,11 +65,11 @@ impl Group {
     pub(crate) fn taken(self, offset: Offset, usage: Usage) -> Group
         ensures usage { result.usage ≡ usage }
         ensures out { OutAt self offset.number true result }
-        ensures some { (result.out == 0) ≡ false }
+        ensures some { (result.out.bits == 0) ≡ false }
     {
         Group {
             usage,
-            out: with_offset(self.out, offset, true),
+            out: self.out.with(OffsetSet::from(offset)),
         }
     }
 
@@ -90,8 +77,12 @@ impl Group {
     pub(crate) fn returned(self, offset: Offset) -> Group
         ensures { Returned self offset.number result }
     {
-        let out = with_offset(self.out, offset, false);
-        let usage = if out == 0 { Usage::Open } else { self.usage };
+        let out = self.out.without(OffsetSet::from(offset));
+        let usage = if out.is_empty() {
+            Usage::Open
+        } else {
+            self.usage
+        };
         Group { usage, out }
     }
 }

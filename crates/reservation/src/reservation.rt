@@ -23,7 +23,7 @@ pub struct ReservationAllocator {
     pub(crate) order: AgeOrder,
     ghost all: { length groups ≡ 256 },
     // a group is open exactly when no frame of it is out
-    ghost used: { (g : ℕ) → is_open (nth_group groups g) ≡ ((nth_group groups g).out == 0) },
+    ghost used: { (g : ℕ) → is_open (nth_group groups g) ≡ ((nth_group groups g).out.bits == 0) },
     // at most one group is reserved for a block
     ghost single: { (g h : ℕ) → same_block (nth_group groups g).usage (nth_group groups h).usage ≡ true → g ≡ h },
     ghost opens: { (g : ℕ) → has open_groups g ≡ is_open (nth_group groups g) },

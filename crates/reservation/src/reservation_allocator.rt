@@ -10,7 +10,7 @@ use crate::group::{Group, Usage};
 use crate::reservation::ReservationAllocator;
 use crate::spot::Spot;
 use frames::{AllocateFault, FrameAllocator, FreeFault, Stock};
-use words::Page;
+use words::{OffsetSet, Page};
 
 impl ReservationAllocator {
     // The frames from 16 * group on, none out.
@@ -19,7 +19,7 @@ impl ReservationAllocator {
     {
         let open = Group {
             usage: Usage::Open,
-            out: 0,
+            out: OffsetSet { bits: 0 },
         };
         ReservationAllocator {
             stock: Stock::of_group(group),

@@ -27,7 +27,7 @@ impl Step {
 impl ReservationAllocator {
     // Writes a group.
     pub(crate) fn store(&mut self, number: u8, group: Group)
-        requires used { is_open group ≡ (group.out == 0) }
+        requires used { is_open group ≡ (group.out.bits == 0) }
         requires single { (h : ℕ) → same_block group.usage (group_of self.old h).usage ≡ true → h ≡ number }
         ensures stock { self.new.stock ≡ self.old.stock }
         ensures stored { group_of self.new ≡ at (group_of self.old) number group }
@@ -60,7 +60,7 @@ impl ReservationAllocator {
 
     // Brings in a frame that is out.
     pub(crate) fn bring_in(&mut self, spot: Spot)
-        requires { bit (group_of self.old spot.group).out spot.offset.number ≡ true }
+        requires { bit (group_of self.old spot.group).out.bits spot.offset.number ≡ true }
         ensures came { CameIn self.old spot.group spot.offset.number self.new }
         ensures out { group_out self.new ≡ at (group_out self.old) (frame_at self.old spot.group spot.offset.number) false }
         ensures same { group_stock self.new ≡ group_stock self.old }

@@ -2,7 +2,7 @@
 ghost use Rattle.std.specs.Prelude.{◌≡◌};
 ghost use Rattle.tlb.specs.Entries.{entry_says, entry_offsets};
 
-use words::{Page, Translation, Word};
+use words::{OffsetSet, Page, Translation, Word};
 
 #[derive(Clone, Copy)]
 pub struct Entry {
@@ -22,13 +22,13 @@ impl Entry {
         }
     }
 
-    // One bit for each offset of a compact word, or the bit of a full word's page.
-    pub fn offsets(self) -> u16
-        ensures { result ≡ entry_offsets self }
+    // The offsets of a compact word, or that of a full word's page.
+    pub fn offsets(self) -> OffsetSet
+        ensures { result.bits ≡ entry_offsets self }
     {
         match self.word {
             Word::Compact(word) => word.offsets(),
-            Word::Full(_) => self.page.offset().bit(),
+            Word::Full(_) => OffsetSet::from(self.page.offset()),
         }
     }
 }

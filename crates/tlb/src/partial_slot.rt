@@ -9,7 +9,7 @@ use crate::entry::Entry;
 use crate::fill::Fill;
 use crate::page_slot::PageSlot;
 use crate::slot::Slot;
-use words::{Block, CompactWord, Page, Translation, Word};
+use words::{Block, CompactWord, OffsetSet, Page, Translation, Word};
 
 // A subblock is some pages of a block, properly placed in one frame block with equal attributes, as a compact word has them;
 // a single page may be on any frame.
@@ -20,36 +20,36 @@ pub enum PartialSlot {
 }
 
 impl PartialSlot {
-    // Whether the slot is of the block and holds a page at one of the offsets whose bits are set.
-    fn overlaps(&self, block: Block, offsets: u16) -> bool
-        ensures { result ≡ overlaps block.number offsets self.now }
+    // Whether the slot is of the block and holds a page at one of the offsets.
+    fn overlaps(&self, block: Block, offsets: OffsetSet) -> bool
+        ensures { result ≡ overlaps block.number offsets.bits self.now }
     {
         match self {
             PartialSlot::Subblock { block: own, word } => *own == block
-                && word.offsets() & offsets != 0,
+                && word.offsets().meets(offsets),
             PartialSlot::Single(slot) => slot.page.block() == block
-                && slot.page.offset().is_in(offsets),
+                && offsets.has(slot.page.offset()),
         }
     }
 
-    // The slot without the offsets whose bits are set; none where no page is left.
-    fn without_all(self, offsets: u16) -> Option<PartialSlot>
-        ensures { Loses offsets self result }
+    // The slot without the offsets; none where no page is left.
+    fn without_all(self, offsets: OffsetSet) -> Option<PartialSlot>
+        ensures { Loses offsets.bits self result }
     {
         match self {
             PartialSlot::Subblock { block, word } => {
                 let word = word.without_all(offsets)?;
                 Some(PartialSlot::Subblock { block, word })
             }
-            PartialSlot::Single(slot) if slot.page.offset().is_in(offsets) => None,
+            PartialSlot::Single(slot) if offsets.has(slot.page.offset()) => None,
             PartialSlot::Single(_) => Some(self),
         }
     }
 }
 
-// Clears the block's pages at the offsets whose bits are set; a struct of the two would be made only to be taken apart at each slot.
-fn clear(slot: &mut Option<PartialSlot>, block: Block, offsets: u16)
-    ensures { Becomes (Cleared block.number offsets) slot.old slot.new }
+// Clears the block's pages at the offsets; a struct of the two would be made only to be taken apart at each slot.
+fn clear(slot: &mut Option<PartialSlot>, block: Block, offsets: OffsetSet)
+    ensures { Becomes (Cleared block.number offsets.bits) slot.old slot.new }
 {
     if let Some(held) = slot.as_ref()
         && held.overlaps(block, offsets)
@@ -76,7 +76,7 @@ impl Slot for PartialSlot {
     }
 
     fn drop_page(slot: &mut Option<PartialSlot>, page: Page) {
-        clear(slot, page.block(), page.offset().bit());
+        clear(slot, page.block(), OffsetSet::from(page.offset()));
     }
 }
 

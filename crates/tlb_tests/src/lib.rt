@@ -5,7 +5,7 @@
 mod tests {
     use std::test::Fail;
     use tlb::{Entry, OnePageTlb, PartialSubblockTlb, Tlb, TwoLevelTlb};
-    use words::{CompactWord, FullWord, Page, Translation, Word};
+    use words::{CompactWord, FullWord, OffsetSet, Page, Translation, Word};
 
     // As in the tests of the reservation: a crate for this one line would be no plainer.
     fn page(number: u32) -> Page {
@@ -37,9 +37,9 @@ mod tests {
         offsets: u16,
         frame_block: u32,
     ) -> Result<(), Fail> {
-        let word = CompactWord::from_parts(offsets, frame_block, 3).ok_or(Fail::new(
-            "no compact word",
-        ))?;
+        let word = CompactWord::from_parts(OffsetSet { bits: offsets }, frame_block, 3).ok_or(
+            Fail::new("no compact word"),
+        )?;
         let entry = Entry {
             page: page(number),
             word: Word::Compact(word),

@@ -1,7 +1,7 @@
 // The parts of a 64-bit address: its page, and the page's block and offset. Types of their own: one type with the width and the bound as
 // parameters would share a single `try_from`, and each other method would still stand in an `impl` of its own instance.
 ghost use Rattle.std.specs.Prelude.{◌≡◌, ◌^◌, ◌<◌, ◌≤◌, MatchResult};
-ghost use Rattle.words.specs.Layout.{page_of, block_of, offset_of, bucket_of, page_at, bit};
+ghost use Rattle.words.specs.Layout.{page_of, block_of, offset_of, bucket_of, page_at};
 
 use crate::fault::BadNumber;
 
@@ -89,13 +89,6 @@ impl Offset {
         ensures { result ≡ 2 ^ self.number }
     {
         1 << self.number
-    }
-
-    // Whether the offset is one of those whose bits are set.
-    pub fn is_in(self, offsets: u16) -> bool
-        ensures { result ≡ bit offsets self.number }
-    {
-        (offsets >> self.number) % 2 == 1
     }
 }
 

@@ -6,6 +6,7 @@ ghost use Rattle.words.specs.Reading.{is_placed, said};
 ghost use Rattle.words.specs.declared.form.Form.TheVariants as shape;
 
 use crate::address::Offset;
+use crate::offset_set::OffsetSet;
 use crate::parts::translation_of;
 use crate::translation::Translation;
 
@@ -30,15 +31,15 @@ impl CompactWord {
         Some(CompactWord { bits })
     }
 
-    // The word of the offsets whose bits are set; none where no bit is, or a part is too large.
-    pub fn from_parts(offsets: u16, frame_block: u32, attributes: u16) -> Option<CompactWord>
-        ensures { Made result (are_parts offsets frame_block attributes) (λ w. w.bits ≡ compact_word offsets frame_block attributes) }
+    // The word of some offsets; none where there is none, or a part is too large.
+    pub fn from_parts(offsets: OffsetSet, frame_block: u32, attributes: u16) -> Option<CompactWord>
+        ensures { Made result (are_parts offsets.bits frame_block attributes) (λ w. w.bits ≡ compact_word offsets.bits frame_block attributes) }
     {
-        if offsets == 0 || frame_block >= 0x100_0000 || attributes >= 0x1000 {
+        if offsets.is_empty() || frame_block >= 0x100_0000 || attributes >= 0x1000 {
             return None;
         }
         Some(CompactWord {
-            bits: u64::from(offsets) * 0x1_0000_0000_0000
+            bits: u64::from(offsets.bits) * 0x1_0000_0000_0000
                 + u64::from(frame_block) * 0x1_0000
                 + u64::from(attributes),
         })
@@ -51,14 +52,20 @@ impl CompactWord {
         if !translation.properly_placed(offset) {
             return None;
         }
-        CompactWord::from_parts(offset.bit(), translation.frame / 16, translation.attributes)
+        CompactWord::from_parts(
+            OffsetSet::from(offset),
+            translation.frame / 16,
+            translation.attributes,
+        )
     }
 
-    // One bit for each offset whose page is in the word, offset 0 in bit 0.
-    pub fn offsets(self) -> u16
-        ensures { result ≡ offsets_in self.bits }
+    // The offsets whose pages are in the word.
+    pub fn offsets(self) -> OffsetSet
+        ensures { result.bits ≡ offsets_in self.bits }
     {
-        (self.bits / 0x1_0000_0000_0000) as u16
+        OffsetSet {
+            bits: (self.bits / 0x1_0000_0000_0000) as u16,
+        }
     }
 
     pub fn frame_block(self) -> u32
@@ -76,7 +83,7 @@ impl CompactWord {
     fn has(self, offset: Offset) -> bool
         ensures { result ≡ bit (offsets_in self.bits) offset.number }
     {
-        offset.is_in(self.offsets())
+        self.offsets().has(offset)
     }
 
     // What the page at an offset is mapped to.
@@ -91,12 +98,12 @@ impl CompactWord {
     }
 
     // The word with other offsets.
-    fn with_offsets(self, offsets: u16) -> CompactWord
-        requires { 0 < offsets }
-        ensures { Offsets self.bits (bit offsets) result.bits }
+    fn with_offsets(self, offsets: OffsetSet) -> CompactWord
+        requires { 0 < offsets.bits }
+        ensures { Offsets self.bits (bit offsets.bits) result.bits }
     {
         CompactWord {
-            bits: u64::from(offsets) * 0x1_0000_0000_0000 + self.bits % 0x1_0000_0000_0000,
+            bits: u64::from(offsets.bits) * 0x1_0000_0000_0000 + self.bits % 0x1_0000_0000_0000,
         }
     }
 
@@ -104,40 +111,24 @@ impl CompactWord {
     pub fn with(self, offset: Offset) -> CompactWord
         ensures { Offsets self.bits (plus self.bits (2 ^ offset.number)) result.bits }
     {
-        self.with_offsets(added(self.offsets(), offset.bit()))
+        self.with_offsets(self.offsets().with(OffsetSet::from(offset)))
     }
 
     // The word without the page at an offset; none where no other page is in it.
     pub fn without(self, offset: Offset) -> Option<CompactWord>
         ensures { MatchOption result ((k : ℕ) → minus self.bits (2 ^ offset.number) k ≡ false) (λ w. Offsets self.bits (minus self.bits (2 ^ offset.number)) w.bits) }
     {
-        self.without_all(offset.bit())
+        self.without_all(OffsetSet::from(offset))
     }
 
-    // The word without the pages at the offsets whose bits are set; none where no other page is in it.
-    pub fn without_all(self, offsets: u16) -> Option<CompactWord>
-        ensures { MatchOption result ((k : ℕ) → minus self.bits offsets k ≡ false) (λ w. Offsets self.bits (minus self.bits offsets) w.bits) }
+    // The word without the pages at some offsets; none where no other page is in it.
+    pub fn without_all(self, offsets: OffsetSet) -> Option<CompactWord>
+        ensures { MatchOption result ((k : ℕ) → minus self.bits offsets.bits k ≡ false) (λ w. Offsets self.bits (minus self.bits offsets.bits) w.bits) }
     {
-        let left = cleared(self.offsets(), offsets);
-        if left == 0 {
+        let left = self.offsets().without(offsets);
+        if left.is_empty() {
             return None;
         }
         Some(self.with_offsets(left))
     }
-}
-
-// The offsets and some more. Offsets go as the sixteen bits that the format and C have: a type for them would be taken apart at each word.
-fn added(offsets: u16, more: u16) -> u16
-    ensures each { (k : ℕ) → bit result k ≡ (bit offsets k || bit more k) }
-    ensures some { more ≤ result }
-{
-    offsets | more
-}
-
-// The offsets without those that are gone.
-fn cleared(offsets: u16, gone: u16) -> u16
-    ensures each { (k : ℕ) → bit result k ≡ (bit offsets k && not (bit gone k)) }
-    ensures none { result ≡ 0 → (k : ℕ) → (bit offsets k && not (bit gone k)) ≡ false }
-{
-    offsets & !gone
 }

@@ -7,7 +7,9 @@ mod lines;
 #[cfg(test)]
 mod tests {
     use std::test::Fail;
-    use words::{Access, CompactWord, FullWord, Page, ReadFault, Translation, read_word};
+    use words::{
+        Access, CompactWord, FullWord, OffsetSet, Page, ReadFault, Translation, read_word,
+    };
 
     // Forms as the exported reader takes them, by their numbers.
     const COMPACT: u64 = 1;
@@ -20,7 +22,7 @@ mod tests {
     }
 
     fn compact(offsets: u16, frame_block: u32, attributes: u16) -> Option<u64> {
-        let word = CompactWord::from_parts(offsets, frame_block, attributes)?;
+        let word = CompactWord::from_parts(OffsetSet { bits: offsets }, frame_block, attributes)?;
         Some(word.bits)
     }
 

@@ -6,12 +6,12 @@ use Rattle.reservation.proofs.group.Group.lowest_in.Goals as goal
 
 pub invariant_of-result : goal.invariant_of-result
 invariant_of-result c =
-    let (l, e) = lowest_clear 16 c.args.self.out (omega (arith, eqb-false _ _ (not-true _ c.requires))) in
+    let (l, e) = lowest_clear 16 c.args.self.out.bits (omega (arith, eqb-false _ _ (not-true _ c.requires))) in
     let r = c.trailing_ones.ensures in
     record { within = omega arith }
 
 pub returns : goal.returns
 returns c =
-    let (l, e) = lowest_clear 16 c.args.self.out (omega (arith, eqb-false _ _ (not-true _ c.requires))) in
+    let (l, e) = lowest_clear 16 c.args.self.out.bits (omega (arith, eqb-false _ _ (not-true _ c.requires))) in
     let r = c.trailing_ones.ensures in
-    (omega arith, ap (bit c.args.self.out) r ∙ e)
+    (omega arith, ap (bit c.args.self.out.bits) r ∙ e)

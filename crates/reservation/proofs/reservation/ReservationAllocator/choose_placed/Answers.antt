@@ -15,8 +15,8 @@ returns-in-Some c =
     let here : block_use (block_of p) (group_of s c.in-Some.group).usage ≡ true = ap (λ b. block_use b (group_of s c.in-Some.group).usage) (sym c.block.ensures) ∙ only.here in
     by_test c.then_some.result _ _ (Unplaced s p) (Chosen s p) c.then_some.ensures
     (λ out. record {
-      kept = λ g h. ap (λ x. bit (group_of s x).out (offset_of p)) (only.only g (ap (λ b. block_use b (group_of s g).usage) c.block.ensures ∙ h))
-          ∙ ap (bit (group_of s c.in-Some.group).out) (sym c.offset-offset.ensures) ∙ sym c.is_out.ensures ∙ not-false _ out;
+      kept = λ g h. ap (λ x. bit (group_of s x).out.bits (offset_of p)) (only.only g (ap (λ b. block_use b (group_of s g).usage) c.block.ensures ∙ h))
+          ∙ ap (bit (group_of s c.in-Some.group).out.bits) (sym c.offset-offset.ensures) ∙ sym c.is_out.ensures ∙ not-false _ out;
       reserves = λ none. absurd (both_ways _ (none c.in-Some.group) here);
     })
     (λ inside. record {
