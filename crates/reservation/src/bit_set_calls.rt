@@ -6,7 +6,8 @@ ghost use Rattle.reservation.specs.Sets.{has, FirstFrom, NoneFrom};
 
 use crate::bit_set::BitSet;
 
-// The word with one bit set or cleared.
+// The word with one bit set or cleared. Like `has` below, apart from the sets of offsets, whose words have 16 bits: Rust has no one shift for
+// both widths.
 fn with_bit(word: u64, place: usize, on: bool) -> u64
     requires { place < 64 }
     ensures { bit result ≡ at (bit word) place on }
@@ -30,7 +31,6 @@ impl<const N: usize> BitSet<N> {
         }
     }
 
-    // A bit of a word of 64, as `Offset::is_in` tests one of 16: Rust has no one shift for both.
     pub(crate) fn has(&self, number: usize) -> bool
         requires { number < 64 * N }
         ensures { result ≡ has self.now number }
