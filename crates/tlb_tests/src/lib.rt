@@ -19,7 +19,7 @@ mod tests {
         frame: u32,
         attributes: u16,
     ) -> Result<(), Fail> {
-        let translation = Translation::new(frame, attributes).ok_or(Fail::new(
+        let translation = Translation::new(frame, attributes).ok_or_else(|| Fail::new(
             "frame or attributes out of range",
         ))?;
         let entry = Entry {
@@ -37,8 +37,8 @@ mod tests {
         offsets: u16,
         frame_block: u32,
     ) -> Result<(), Fail> {
-        let word = CompactWord::from_parts(OffsetSet { bits: offsets }, frame_block, 3).ok_or(
-            Fail::new("no compact word"),
+        let word = CompactWord::from_parts(OffsetSet { bits: offsets }, frame_block, 3).ok_or_else(
+            || Fail::new("no compact word"),
         )?;
         let entry = Entry {
             page: page(number),

@@ -151,14 +151,16 @@ mod tests {
             attributes: 3,
         };
         assert!(rt; page.allows(Access::Write) && !page.allows(Access::Execute));
-        let word = CompactWord::of_page(first, page).ok_or(Fail::new(
+        let word = CompactWord::of_page(first, page).ok_or_else(|| Fail::new(
             "page 0x41 is properly placed on frame 0x1001",
         ))?;
         assert_eq!(rt; word.bits, 0x0002_0000_0100_0003);
         assert!(rt; word.without(first).is_none());
         let both = word.with(last);
         assert_eq!(rt; both.bits, 0x8002_0000_0100_0003);
-        let rest = both.without(first).ok_or(Fail::new("page 0x4F is left"))?;
+        let rest = both
+            .without(first)
+            .ok_or_else(|| Fail::new("page 0x4F is left"))?;
         assert_eq!(rt; rest.bits, 0x8000_0000_0100_0003);
         Ok(())
     }
