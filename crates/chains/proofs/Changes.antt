@@ -10,39 +10,41 @@ use Rattle.words.specs.Points.{at}
 use Rattle.words.specs.declared.address.Block.{Block}
 use Rattle.chains.specs.declared.chains.Chains.{Chains}
 use Rattle.chains.specs.declared.node.Body.{Body}
+use Rattle.chains.specs.declared.node.Content.TheVariants.{Free}
 use Rattle.chains.specs.declared.node.Node.{Node}
 use Rattle.chains.specs.declared.node.Way.{Way}
 use Rattle.chains.specs.Chains.{node_of, body_of, block_of_node, Leads}
 use Rattle.chains.specs.Counting.{how_many}
 use Rattle.chains.specs.Links.{on}
 use Rattle.chains.specs.Blocks.{block_number}
+use Rattle.chains.specs.Contents.{body_in, owner_in}
 use Rattle.chains.specs.Nodes.{link_number, link_at, owner, is_linked, block_at, home_of, home_at, chain_from, node_for, is_held, Sound, Single, Kept, Holds, NoTwice, NoneLost}
 use Rattle.chains.proofs.Counts.{one, many_at, many_all, many_less}
 use Rattle.chains.proofs.Cut.{on_not_off}
-use Rattle.chains.proofs.Held.{at_same, next_in, no_node, home_in, block_in, home_most, no_flag_of_home, node_of_block, block_of_linked, at_map, link_set, owner_set, nth_at}
+use Rattle.chains.proofs.Held.{has_body, owner_of, at_same, next_in, no_node, home_in, block_in, home_most, no_flag_of_home, node_of_block, block_of_linked, at_map, link_set, owner_set, nth_at}
 use Rattle.chains.proofs.Linking.{at_here, at_there, push_next, push_home, push_block, push_sound, push_single, push_kept, push_here, push_others, cut_next, cut_home, cut_block, cut_sound, cut_single, cut_kept, cut_others, cut_gone}
 use Rattle.chains.proofs.Steps.{step, over}
 
 -- the body of a node as a function of its place
 abbrev pub bodies : List Node → ℕ → Option Body
-bodies ns i = option_map (λ (n : Node). n.body) (slice_get ns i)
+bodies ns i = option_and_then body_in (slice_get ns i)
 
-pub bodies_set : (ns : List Node) (i : ℕ) (n : Node) → i < length ns → bodies (set ns i n) ≡ at (bodies ns) i (Some n.body)
-bodies_set ns i n l = ap (λ f k. option_map (λ (m : Node). m.body) (f k)) (nth_at ns i n l) ∙ at_map (option_map (λ (m : Node). m.body)) (slice_get ns) i (Some n)
+pub bodies_set : (ns : List Node) (i : ℕ) (n : Node) → i < length ns → bodies (set ns i n) ≡ at (bodies ns) i (body_in n)
+bodies_set ns i n l = ap (λ f k. option_and_then body_in (f k)) (nth_at ns i n l) ∙ at_map (option_and_then body_in) (slice_get ns) i (Some n)
 
 -- a node that is written, seen by its block
 module _ (ns : List Node) (i : ℕ) (n : Node) (l : i < length ns) where
-  pub linked_set : is_linked (set ns i n) ≡ at (is_linked ns) i (is_some n.block)
-  linked_set = ap (λ f k. is_some (f k)) (owner_set ns i n l) ∙ at_map is_some (owner ns) i n.block
+  pub linked_set : is_linked (set ns i n) ≡ at (is_linked ns) i (is_some (owner_in n))
+  linked_set = ap (λ f k. is_some (f k)) (owner_set ns i n l) ∙ at_map is_some (owner ns) i (owner_in n)
 
-  pub blocks_set : block_at (set ns i n) ≡ at (block_at ns) i (block_number n.block)
-  blocks_set = ap (λ f k. block_number (f k)) (owner_set ns i n l) ∙ at_map block_number (owner ns) i n.block
+  pub blocks_set : block_at (set ns i n) ≡ at (block_at ns) i (block_number (owner_in n))
+  blocks_set = ap (λ f k. block_number (f k)) (owner_set ns i n l) ∙ at_map block_number (owner ns) i (owner_in n)
 
   -- and by the chain where it is at home
-  pub homes_set : home_at (set ns i n) ≡ at (home_at ns) i (cond (is_some n.block) (bucket_of (block_number n.block)) 64)
+  pub homes_set : home_at (set ns i n) ≡ at (home_at ns) i (cond (is_some (owner_in n)) (bucket_of (block_number (owner_in n))) 64)
   homes_set = ap₂ home_of blocks_set linked_set ∙ fun_ext (λ k. ⊎_elim
-      (λ e. ap₂ (λ x y. cond x (bucket_of y) 64) (at_here (is_linked ns) i (is_some n.block) k e) (at_here (block_at ns) i (block_number n.block) k e) ∙ sym (at_here (home_at ns) i _ k e))
-      (λ ne. ap₂ (λ x y. cond x (bucket_of y) 64) (at_there (is_linked ns) i (is_some n.block) k ne) (at_there (block_at ns) i (block_number n.block) k ne) ∙ sym (at_there (home_at ns) i _ k ne))
+      (λ e. ap₂ (λ x y. cond x (bucket_of y) 64) (at_here (is_linked ns) i (is_some (owner_in n)) k e) (at_here (block_at ns) i (block_number (owner_in n)) k e) ∙ sym (at_here (home_at ns) i _ k e))
+      (λ ne. ap₂ (λ x y. cond x (bucket_of y) 64) (at_there (is_linked ns) i (is_some (owner_in n)) k ne) (at_there (block_at ns) i (block_number (owner_in n)) k ne) ∙ sym (at_there (home_at ns) i _ k ne))
       (cases_eq k i))
 
 -- the block of a linked node
@@ -57,32 +59,30 @@ unowned None f = refl
 -- a body is written on the node i
 module _ (c : Chains) (i : ℕ) (n : Node) (l : i < 256) where
   apart : (b : ℕ) → (node_of c b ≡ i → ⊥) → bodies (set c.nodes i n) (node_of c b) ≡ body_of c b
-  apart b ne = let w = c.wide in ap (λ f. f (node_of c b)) (bodies_set c.nodes i n (omega arith)) ∙ at_there (bodies c.nodes) i (Some n.body) (node_of c b) ne
+  apart b ne = let w = c.wide in ap (λ f. f (node_of c b)) (bodies_set c.nodes i n (omega arith)) ∙ at_there (bodies c.nodes) i (body_in n) (node_of c b) ne
 
-  pub rewritten : MatchOption (block_of_node c i) ((λ b. bodies (set c.nodes i n) (node_of c b)) ≡ body_of c) (λ d. (λ b. bodies (set c.nodes i n) (node_of c b)) ≡ at (body_of c) d (Some n.body))
+  pub rewritten : MatchOption (block_of_node c i) ((λ b. bodies (set c.nodes i n) (node_of c b)) ≡ body_of c) (λ d. (λ b. bodies (set c.nodes i n) (node_of c b)) ≡ at (body_of c) d (body_in n))
   rewritten = ⊎_elim
-      (λ t. subst (λ o. MatchOption o ((λ b. bodies (set c.nodes i n) (node_of c b)) ≡ body_of c) (λ d. (λ b. bodies (set c.nodes i n) (node_of c b)) ≡ at (body_of c) d (Some n.body))) (sym (owned (owner c.nodes i) t)) (fun_ext (λ b. ⊎_elim
+      (λ t. subst (λ o. MatchOption o ((λ b. bodies (set c.nodes i n) (node_of c b)) ≡ body_of c) (λ d. (λ b. bodies (set c.nodes i n) (node_of c b)) ≡ at (body_of c) d (body_in n))) (sym (owned (owner c.nodes i) t)) (fun_ext (λ b. ⊎_elim
       (λ e. let w = c.wide in
-      ap (λ f. f (node_of c b)) (bodies_set c.nodes i n (omega arith)) ∙ at_here (bodies c.nodes) i (Some n.body) (node_of c b) (ap (node_of c) e ∙ block_of_linked c i l t)
-      ∙ sym (at_here (body_of c) (block_in c i) (Some n.body) b e))
-      (λ ne. apart b (λ e. ne (sym (node_of_block c b (omega arith)).1 ∙ ap (block_in c) e)) ∙ sym (at_there (body_of c) (block_in c i) (Some n.body) b ne))
+      ap (λ f. f (node_of c b)) (bodies_set c.nodes i n (omega arith)) ∙ at_here (bodies c.nodes) i (body_in n) (node_of c b) (ap (node_of c) e ∙ block_of_linked c i l t)
+      ∙ sym (at_here (body_of c) (block_in c i) (body_in n) b e))
+      (λ ne. apart b (λ e. ne (sym (node_of_block c b (omega arith)).1 ∙ ap (block_in c) e)) ∙ sym (at_there (body_of c) (block_in c i) (body_in n) b ne))
       (cases_eq b (block_in c i)))))
-      (λ f. subst (λ o. MatchOption o ((λ b. bodies (set c.nodes i n) (node_of c b)) ≡ body_of c) (λ d. (λ b. bodies (set c.nodes i n) (node_of c b)) ≡ at (body_of c) d (Some n.body))) (sym (unowned (owner c.nodes i) f))
+      (λ f. subst (λ o. MatchOption o ((λ b. bodies (set c.nodes i n) (node_of c b)) ≡ body_of c) (λ d. (λ b. bodies (set c.nodes i n) (node_of c b)) ≡ at (body_of c) d (body_in n))) (sym (unowned (owner c.nodes i) f))
       (fun_ext (λ b. apart b (λ e. both_ways _ f (ap (is_linked c.nodes) (sym e) ∙ (node_of_block c b (omega arith)).0)))))
       (cases_Bool (is_linked c.nodes i))
 
--- the body of a node is written, and its block is left
-module _ (c : Chains) (i : ℕ) (d : Node) (y : Body) (l : i < 256) where
-  abbrev m : Node
-  m = record { block = (get_or c.nodes i d).block; body = y }
-
+-- a node that is not free is written, and its block is left
+module _ (c : Chains) (i : ℕ) (d n : Node) (y : Body) (l : i < 256) (block : n.block ≡ (get_or c.nodes i d).block) (has : body_in n ≡ Some y)
+    (some : is_some (body_in (get_or c.nodes i d)) ≡ true) where
   abbrev ms : List Node
-  ms = set c.nodes i (record { block = (get_or c.nodes i d).block; body = y })
+  ms = set c.nodes i n
 
   owners : owner ms ≡ owner c.nodes
   owners = let w = c.wide in
-      owner_set c.nodes i m (omega arith)
-      ∙ at_same (owner c.nodes) i m.block (ap (option_and_then (λ (n : Node). n.block)) (slice_get-get_or c.nodes i d (omega arith)))
+      owner_set c.nodes i n (omega arith)
+      ∙ at_same (owner c.nodes) i (owner_in n) (ap (option_and_then owner_in) (slice_get-get_or c.nodes i d (omega arith)) ∙ owner_of _ some ∙ ap Some (sym block) ∙ sym (owner_of n (ap is_some has)))
 
   homes_left : home_at ms ≡ home_at c.nodes
   homes_left = ap (λ f. home_of (λ k. block_number (f k)) (λ k. is_some (f k))) owners
@@ -105,7 +105,15 @@ module _ (c : Chains) (i : ℕ) (d : Node) (y : Body) (l : i < 256) where
   pub replaced_puts : (j : ℕ) → i ≡ j → MatchOption (block_of_node c j) ((λ b. bodies ms (node_for (next_in c) (block_at ms) b)) ≡ body_of c) (λ k. (λ b. bodies ms (node_for (next_in c) (block_at ms) b)) ≡ at (body_of c) k (Some y))
   replaced_puts j e = subst (λ h. MatchOption (block_of_node c h) ((λ b. bodies ms (node_for (next_in c) (block_at ms) b)) ≡ body_of c) (λ k. (λ b. bodies ms (node_for (next_in c) (block_at ms) b)) ≡ at (body_of c) k (Some y))) e
       (subst (λ f. MatchOption (block_of_node c i) ((λ b. bodies ms (node_for (next_in c) (λ k. block_number (f k)) b)) ≡ body_of c) (λ k. (λ b. bodies ms (node_for (next_in c) (λ h. block_number (f h)) b)) ≡ at (body_of c) k (Some y))) (sym owners)
-      (rewritten c i m l))
+      (subst (λ o. MatchOption (block_of_node c i) ((λ b. bodies ms (node_of c b)) ≡ body_of c) (λ k. (λ b. bodies ms (node_of c b)) ≡ at (body_of c) k o)) has (rewritten c i n l)))
+
+-- a free node has no block
+pub free_writes : (c : Chains) (i : ℕ) (d : Node) (y : Body) (j : ℕ) → i ≡ j → i < 256 → is_some (body_in (get_or c.nodes i d)) ≡ false → MatchOption (block_of_node c j) (body_of c ≡ body_of c) (λ k. body_of c ≡ at (body_of c) k (Some y))
+free_writes c i d y j e l f =
+    let w = c.wide in
+    subst (λ h. MatchOption (block_of_node c h) (body_of c ≡ body_of c) (λ k. body_of c ≡ at (body_of c) k (Some y))) e
+    (subst (λ o. MatchOption o (body_of c ≡ body_of c) (λ k. body_of c ≡ at (body_of c) k (Some y)))
+    (sym (unowned (owner c.nodes i) (sym (has_body (slice_get c.nodes i)) ∙ ap (λ o. is_some (option_and_then body_in o)) (slice_get-get_or c.nodes i d (omega arith)) ∙ f))) refl)
 
 -- three links are written
 three : (ls : List (Option ℕ)) (i j k : ℕ) (a b d : Option ℕ) → i < length ls → j < length ls → k < length ls
@@ -125,7 +133,7 @@ all_linked c g = c.counted ∙ many_all (is_linked c.nodes) 256 (λ i l. ⊎_eli
     (cases_Bool (is_linked c.nodes i)))
 
 -- the first free node is linked for the block; i and j are its number
-module _ (c : Chains) (block : Block) (y : Body) (h i j : ℕ) (bucket : h ≡ bucket_of block.number) (same : i ≡ j) (absent : body_of c block.number ≡ None)
+module _ (c : Chains) (block : Block) (n : Node) (y : Body) (h i j : ℕ) (of_block : n.block ≡ block) (has : body_in n ≡ Some y) (bucket : h ≡ bucket_of block.number) (same : i ≡ j) (absent : body_of c block.number ≡ None)
     (free : get_or c.links 320 None ≡ Some j) (room : j < 256) (wl : length c.links ≡ 321) where
   abbrev b₀ : ℕ
   b₀ = block.number
@@ -134,7 +142,10 @@ module _ (c : Chains) (block : Block) (y : Body) (h i j : ℕ) (bucket : h ≡ b
   ls = set (set (set c.links i (get_or c.links (256 + h) None)) 320 (get_or c.links i None)) (256 + h) (Some j)
 
   abbrev ns : List Node
-  ns = set c.nodes i (record { block = Some block; body = y })
+  ns = set c.nodes i n
+
+  of_new : owner_in n ≡ Some block
+  of_new = owner_of n (ap is_some has) ∙ ap Some of_block
 
   first : next_in c 320 ≡ i
   first = ap link_number free ∙ sym same
@@ -164,13 +175,13 @@ module _ (c : Chains) (block : Block) (y : Body) (h i j : ℕ) (bucket : h ≡ b
       ∙ ap (λ k. at (at (at (next_in c) k (next_in c (256 + bucket_of b₀))) 320 (next_in c k)) (256 + bucket_of b₀) k) (sym first)
 
   blocks : block_at ns ≡ bl
-  blocks = blocks_set c.nodes i (record { block = Some block; body = y }) in_nodes ∙ ap (λ k. at (block_in c) k b₀) (sym first)
+  blocks = blocks_set c.nodes i n in_nodes ∙ ap (λ o. at (block_in c) i (block_number o)) of_new ∙ ap (λ k. at (block_in c) k b₀) (sym first)
 
   flags : is_linked ns ≡ at (is_linked c.nodes) i true
-  flags = linked_set c.nodes i (record { block = Some block; body = y }) in_nodes
+  flags = linked_set c.nodes i n in_nodes ∙ ap (λ o. at (is_linked c.nodes) i (is_some o)) of_new
 
   homes : home_at ns ≡ hm
-  homes = homes_set c.nodes i (record { block = Some block; body = y }) in_nodes ∙ ap (λ k. at (home_in c) k (bucket_of b₀)) (sym first)
+  homes = homes_set c.nodes i n in_nodes ∙ ap (λ o. at (home_in c) i (cond (is_some o) (bucket_of (block_number o)) 64)) of_new ∙ ap (λ k. at (home_in c) k (bucket_of b₀)) (sym first)
 
   pub pushed_sound : Sound ls ns
   pushed_sound = subst (λ n. Holds n (home_at ns)) (sym links) (subst (Holds nx) (sym homes)
@@ -225,14 +236,14 @@ module _ (c : Chains) (block : Block) (y : Body) (h i j : ℕ) (bucket : h ≡ b
   pub pushed_puts : (λ b. bodies ns (node_for (link_at ls) (block_at ns) b)) ≡ at (body_of c) b₀ (Some y)
   pushed_puts = fun_ext (λ b. ⊎_elim
       (λ e. ap (bodies ns) (ap (node_for (link_at ls) (block_at ns)) e ∙ node_here)
-      ∙ ap (λ f. f i) (bodies_set c.nodes i (record { block = Some block; body = y }) in_nodes) ∙ at_here (bodies c.nodes) i (Some y) i refl ∙ sym (at_here (body_of c) b₀ (Some y) b e))
+      ∙ ap (λ f. f i) (bodies_set c.nodes i n in_nodes) ∙ at_here (bodies c.nodes) i (body_in n) i refl ∙ has ∙ sym (at_here (body_of c) b₀ (Some y) b e))
       (λ ne. ap (bodies ns) (node_other b ne)
-      ∙ apart c i (record { block = Some block; body = y }) (omega arith) b (λ e. both_ways _ was_free (ap (is_linked c.nodes) (sym e) ∙ (node_of_block c b (omega arith)).0))
+      ∙ apart c i n (omega arith) b (λ e. both_ways _ was_free (ap (is_linked c.nodes) (sym e) ∙ (node_of_block c b (omega arith)).0))
       ∙ sym (at_there (body_of c) b₀ (Some y) b ne))
       (cases_eq b b₀))
 
 -- the node of the block, to which the place q leads, is unlinked; i and j are its number
-module _ (c : Chains) (block : Block) (w : Way) (i : ℕ) (y : Body) (leads : Leads c block.number w) (same : i ≡ w.found.node) (small : w.found.node < 256) (wl : length c.links ≡ 321) where
+module _ (c : Chains) (block : Block) (w : Way) (i : ℕ) (leads : Leads c block.number w) (same : i ≡ w.found.node) (small : w.found.node < 256) (wl : length c.links ≡ 321) where
   abbrev q : ℕ
   q = w.place
 
@@ -264,7 +275,7 @@ module _ (c : Chains) (block : Block) (w : Way) (i : ℕ) (y : Body) (leads : Le
   ls' = set (set (set c.links w.place (get_or c.links i None)) i (get_or c.links 320 None)) 320 (Some w.found.node)
 
   abbrev ns' : List Node
-  ns' = set c.nodes i (record { block = None; body = y })
+  ns' = set c.nodes i (record { block = block; content = Free })
 
   abbrev nx' : ℕ → ℕ
   nx' = cut_next (next_in c) (home_in c) (block_in c) c.sound c.single c.kept (home_most c) w.place (bucket_of block.number) live place follows
@@ -282,13 +293,13 @@ module _ (c : Chains) (block : Block) (w : Way) (i : ℕ) (y : Body) (leads : Le
       ∙ ap (λ k. at (at (at (next_in c) q (next_in c k)) k (next_in c 320)) 320 k) (sym is_i)
 
   blocks' : block_at ns' ≡ bl'
-  blocks' = blocks_set c.nodes i (record { block = None; body = y }) in_nodes' ∙ ap (λ k. at (block_in c) k 0) (sym is_i)
+  blocks' = blocks_set c.nodes i (record { block = block; content = Free }) in_nodes' ∙ ap (λ k. at (block_in c) k 0) (sym is_i)
 
   flags' : is_linked ns' ≡ at (is_linked c.nodes) i false
-  flags' = linked_set c.nodes i (record { block = None; body = y }) in_nodes'
+  flags' = linked_set c.nodes i (record { block = block; content = Free }) in_nodes'
 
   homes' : home_at ns' ≡ hm'
-  homes' = homes_set c.nodes i (record { block = None; body = y }) in_nodes' ∙ ap (λ k. at (home_in c) k 64) (sym is_i)
+  homes' = homes_set c.nodes i (record { block = block; content = Free }) in_nodes' ∙ ap (λ k. at (home_in c) k 64) (sym is_i)
 
   pub unlinked_sound : Sound ls' ns'
   unlinked_sound = subst (λ n. Holds n (home_at ns')) (sym links') (subst (Holds nx') (sym homes')
@@ -342,12 +353,8 @@ module _ (c : Chains) (block : Block) (w : Way) (i : ℕ) (y : Body) (leads : Le
   pub unlinked_puts : (λ b. bodies ns' (node_for (link_at ls') (block_at ns') b)) ≡ at (body_of c) k₀ None
   unlinked_puts = fun_ext (λ b. ⊎_elim
       (λ e. ap (bodies ns') (ap (node_for (link_at ls') (block_at ns')) e ∙ node_gone)
-      ∙ ap (option_map (λ (n : Node). n.body)) (slice_get_past ns' 256 (let l = length-set c.nodes i (record { block = None; body = y }) in let e = c.wide in omega arith)) ∙ sym (at_here (body_of c) k₀ None b e))
+      ∙ ap (option_and_then body_in) (slice_get_past ns' 256 (let l = length-set c.nodes i (record { block = block; content = Free }) in let e = c.wide in omega arith)) ∙ sym (at_here (body_of c) k₀ None b e))
       (λ ne. ap (bodies ns') (node_kept b ne)
-      ∙ apart c i (record { block = None; body = y }) (omega arith) b (λ e. ne (sym (node_of_block c b (omega arith)).1 ∙ ap (block_in c) (e ∙ sym is_i) ∙ own.1))
+      ∙ apart c i (record { block = block; content = Free }) (omega arith) b (λ e. ne (sym (node_of_block c b (omega arith)).1 ∙ ap (block_in c) (e ∙ sym is_i) ∙ own.1))
       ∙ sym (at_there (body_of c) k₀ None b ne))
       (cases_eq b k₀))
-
-  -- what the node held
-  pub unlinked_body : (d : Node) → Some (get_or c.nodes i d).body ≡ body_of c k₀
-  unlinked_body d = let e = c.wide in sym (ap (bodies c.nodes) at_q ∙ ap (option_map (λ (n : Node). n.body)) (slice_get-get_or c.nodes i d (omega arith)))

@@ -1,13 +1,13 @@
 -- New chains: every node is free.
 use Rattle.std.specs.List.{slice_get}
-use Rattle.std.specs.Option.{option_map}
 use Rattle.std.proofs.lemmas.Option.{slice_get_past}
 use lib.ListN.{length-replicate}
-use Rattle.std.proofs.Common.{None, Option, is_some, ◌≡◌, ℕ, zero, suc, ◌+◌, ◌^◌, ◌<◌, ◌≤◌, true, false, List, [], ◌∷◌, replicate, sym, refl, ap, ◌∙◌, subst, ⊎_elim, arith}
+use Rattle.std.proofs.Common.{None, Option, is_some, option_and_then, ◌≡◌, ℕ, zero, suc, ◌+◌, ◌^◌, ◌<◌, ◌≤◌, true, false, List, [], ◌∷◌, replicate, sym, refl, ap, ◌∙◌, subst, ⊎_elim, arith}
 use Rattle.std.proofs.lemmas.Bool.{cases_lt, cases_eq, le-ltb, cond-false}
 use Rattle.words.specs.Layout.{bucket_of}
 use Rattle.chains.specs.Counting.{how_many}
 use Rattle.chains.specs.Links.{chained, node_with, no_twice, on}
+use Rattle.chains.specs.Contents.{body_in, owner_in}
 use Rattle.chains.specs.declared.node.Node.{Node}
 use Rattle.chains.specs.Nodes.{AllFree, link_at, owner, block_at, is_linked, home_at, chain_from, node_for, is_held, Sound, Single, Kept}
 use Rattle.chains.proofs.Counts.{many_none}
@@ -20,13 +20,13 @@ up i zero = []
 up i (suc n) = i ∷ up (i + 1) n
 
 -- nodes that have no block
-module _ (n : Node) (none : n.block ≡ None) where
+module _ (n : Node) (none : owner_in n ≡ None) where
   spare_owner : (m i : ℕ) → owner (replicate m n) i ≡ None
   spare_owner zero i = refl
   spare_owner (suc m) zero = none
   spare_owner (suc m) (suc i) = spare_owner m i
 
-module _ (ls : List (Option ℕ)) (all_free : AllFree ls) (n : Node) (blank : n.block ≡ None) where
+module _ (ls : List (Option ℕ)) (all_free : AllFree ls) (n : Node) (blank : owner_in n ≡ None) where
   free : link_at ls 320 ≡ 0
   free = (all_free 320 (omega arith)).first refl
 
@@ -93,5 +93,5 @@ module _ (ls : List (Option ℕ)) (all_free : AllFree ls) (n : Node) (blank : n.
   pub fresh_held : 0 ≡ how_many (is_held ls ns) (2 ^ 48)
   fresh_held = sym (many_none (is_held ls ns) (2 ^ 48) (λ b l. le-ltb _ 256 (let e = fresh_node b in omega arith)))
 
-  pub fresh_body : (b : ℕ) → option_map (λ (m : Node). m.body) (slice_get ns (node_for (link_at ls) (block_at ns) b)) ≡ None
-  fresh_body b = ap (option_map (λ (m : Node). m.body)) (slice_get_past ns (node_for (link_at ls) (block_at ns) b) (let l = length-replicate 256 n in let e = fresh_node b in omega arith))
+  pub fresh_body : (b : ℕ) → option_and_then body_in (slice_get ns (node_for (link_at ls) (block_at ns) b)) ≡ None
+  fresh_body b = ap (option_and_then body_in) (slice_get_past ns (node_for (link_at ls) (block_at ns) b) (let l = length-replicate 256 n in let e = fresh_node b in omega arith))

@@ -14,7 +14,9 @@ use Rattle.std.specs.Option.{option_map}
 use Rattle.words.specs.declared.address.Block.{Block}
 use Rattle.chains.specs.declared.node.Node.{Node}
 use Rattle.chains.specs.Counting.{how_many}
-use Rattle.chains.specs.Blocks.{block_number, is_number}
+use Rattle.chains.specs.Blocks.{block_number}
+use Rattle.chains.specs.Contents.{body_in, owner_in}
+use Rattle.chains.specs.declared.node.Body.{Body}
 use Rattle.chains.specs.Nodes.{link_number, link_at, owner, is_linked, block_at, home_at, chain_from}
 use Rattle.chains.proofs.Linking.{at_here, at_there, at_home}
 use Rattle.chains.proofs.Steps.{Going, step, falls, passed, here, nowhere}
@@ -53,7 +55,7 @@ no_flag_of_home c i e = ⊎_elim
     (cases_Bool (is_linked c.nodes i))
 
 -- the node that is found is on the chain, and has the block
-node_on : (bl : ℕ → ℕ) (b : ℕ) (l : List ℕ) → node_with bl b l < 256 → (on (node_with bl b l) l ≡ true) × (bl (node_with bl b l) ≡ b)
+pub node_on : (bl : ℕ → ℕ) (b : ℕ) (l : List ℕ) → node_with bl b l < 256 → (on (node_with bl b l) l ≡ true) × (bl (node_with bl b l) ≡ b)
 unfolding node_with on
 node_on bl b [] h = absurd (omega arith)
 node_on bl b (x ∷ l) h = ⊎_elim
@@ -94,13 +96,24 @@ node_own nx hm bl k i (x ∷ l) j (e, lt, hb, r) s o = ⊎_elim
     (cases_eq (bl x) (bl j)))
     (or_cases _ _ o)
 
-some_here : (xs : List Node) (i : ℕ) → i < length xs → is_some (option_map (λ (n : Node). n.body) (slice_get xs i)) ≡ true
-some_here [] i l = absurd (omega arith)
-some_here (x ∷ xs) zero l = refl
-some_here (x ∷ xs) (suc i) l = some_here xs i (omega arith)
+-- a node that has a block has a body
+pub has_body : (o : Option Node) → is_some (option_and_then body_in o) ≡ is_some (option_and_then owner_in o)
+has_body None = refl
+has_body (Some n) = each (body_in n)
+  where
+    each : (o : Option Body) → is_some o ≡ is_some (option_map (λ (_ : Body). n.block) o)
+    each (Some y) = refl
+    each None = refl
+
+pub owner_of : (n : Node) → is_some (body_in n) ≡ true → owner_in n ≡ Some n.block
+owner_of n = each (body_in n)
+  where
+    each : (o : Option Body) → is_some o ≡ true → option_map (λ (_ : Body). n.block) o ≡ Some n.block
+    each (Some y) t = refl
+    each None t = absurd (both_ways false refl t)
 
 module _ (c : Chains) where
-  chain : (b : ℕ) → b < 65 → Chained (next_in c) (home_in c) b (next_in c (256 + b)) (chain_from (next_in c) b)
+  pub chain : (b : ℕ) → b < 65 → Chained (next_in c) (home_in c) b (next_in c (256 + b)) (chain_from (next_in c) b)
   chain b lt = opened (next_in c) (home_in c) b (next_in c (256 + b)) (chain_from (next_in c) b) (c.sound b lt)
 
   pub node_of_most : (b : ℕ) → node_of c b ≤ 256
@@ -122,18 +135,18 @@ module _ (c : Chains) where
 
   -- a body for each block with a node, and no other
   pub no_body : (b : ℕ) → node_of c b ≡ 256 → body_of c b ≡ None
-  no_body b e = ap (option_map (λ n. n.body)) (slice_get_past c.nodes (node_of c b) (let w = c.wide in omega arith))
+  no_body b e = ap (option_and_then body_in) (slice_get_past c.nodes (node_of c b) (let w = c.wide in omega arith))
 
   pub no_node : (b : ℕ) → body_of c b ≡ None → node_of c b ≡ 256
   no_node b e = ⊎_elim
-      (λ l. absurd (both_ways _ (ap is_some e) (some_here c.nodes (node_of c b) (let w = c.wide in omega arith))))
+      (λ l. absurd (both_ways _ (ap is_some e) (has_body (slice_get c.nodes (node_of c b)) ∙ (node_of_block b l).0)))
       (λ g. let m = node_of_most b in omega arith)
       (cases_lt (node_of c b) 256)
 
   pub held_some : (b : ℕ) → is_some (body_of c b) ≡ ltb (node_of c b) 256
   held_some b = ⊎_elim
-      (λ l. some_here c.nodes (node_of c b) (let w = c.wide in omega arith) ∙ sym (lt-ltb _ 256 l))
-      (λ g. ap (λ o. is_some (option_map (λ (n : Node). n.body) o)) (slice_get_past c.nodes (node_of c b) (let w = c.wide in omega arith)) ∙ sym (le-ltb _ 256 g))
+      (λ l. has_body (slice_get c.nodes (node_of c b)) ∙ (node_of_block b l).0 ∙ sym (lt-ltb _ 256 l))
+      (λ g. ap (λ o. is_some (option_and_then body_in o)) (slice_get_past c.nodes (node_of c b) (let w = c.wide in omega arith)) ∙ sym (le-ltb _ 256 g))
       (cases_lt (node_of c b) 256)
 
 -- a function of a changed function
@@ -176,8 +189,8 @@ nth_at {X = X} xs i v l = fun_ext (λ k. ⊎_elim
     other (x ∷ xs) (suc i) (suc k) ne = other xs i k (λ e. ne (ap suc e))
 
 -- a node that is written
-pub owner_set : (ns : List Node) (i : ℕ) (n : Node) → i < length ns → owner (set ns i n) ≡ at (owner ns) i n.block
-owner_set ns i n l = ap (λ f k. option_and_then (λ m. m.block) (f k)) (nth_at ns i n l) ∙ at_map (option_and_then (λ m. m.block)) (slice_get ns) i (Some n)
+pub owner_set : (ns : List Node) (i : ℕ) (n : Node) → i < length ns → owner (set ns i n) ≡ at (owner ns) i (owner_in n)
+owner_set ns i n l = ap (λ f k. option_and_then owner_in (f k)) (nth_at ns i n l) ∙ at_map (option_and_then owner_in) (slice_get ns) i (Some n)
 
 -- a search for the block b that has come to i, which is a node or an end of its chain
 pub record Search (c : Chains) (b i : ℕ) : Type 0 where
@@ -197,36 +210,33 @@ module _ (c : Chains) (b : ℕ) where
     same = passed (next_in c) (home_in c) (bucket_of b) i s.going (block_in c) b l ne ∙ s.same;
   }
 
-  -- the node is compared with the block
-  pub is_it : (i : ℕ) (d : Node) → i < 256 → is_number b (get_or c.nodes i d).block ≡ true → block_in c i ≡ b
-  is_it i d l t = let w = c.wide in ap (λ o. block_number (option_and_then (λ (n : Node). n.block) o)) (slice_get-get_or c.nodes i d (omega arith)) ∙ each (get_or c.nodes i d).block t
-    where
-      each : (o : Option Block) → is_number b o ≡ true → block_number o ≡ b
-      each (Some k) t = eqb-true k.number b t
-      each None t = absurd (both_ways _ refl t)
+  pub home : (i : ℕ) → Search c b i → i < 256 → home_in c i ≡ bucket_of b
+  home i s l = (step (next_in c) (home_in c) (bucket_of b) i s.going l).4
 
-  pub goes_past : (i : ℕ) (d : Node) → Search c b i → i < 256 → is_number b (get_or c.nodes i d).block ≡ false → Search c b (next_in c i)
-  goes_past i d s l f =
+  -- the block of a node of the chain
+  own_block : (i : ℕ) (d : Node) → Search c b i → i < 256 → block_in c i ≡ (get_or c.nodes i d).block.number
+  own_block i d s l =
       let w = c.wide in
-      let own = ap (option_and_then (λ (n : Node). n.block)) (slice_get-get_or c.nodes i d (omega arith)) in
-      let h = home_there i s l in
-      goes_on i s l (λ e. both_ways _ f (each (get_or c.nodes i d).block (sym (ap is_some own) ∙ (flag_of_home c i (omega arith)).0) (sym (ap block_number own) ∙ e)))
+      let own = ap (option_and_then owner_in) (slice_get-get_or c.nodes i d (omega arith)) in
+      let h = home i s l in
+      ap block_number own ∙ each (body_in (get_or c.nodes i d)) (sym (ap is_some own) ∙ (flag_of_home c i (omega arith)).0)
     where
-      home_there : (i : ℕ) → Search c b i → i < 256 → home_in c i ≡ bucket_of b
-      home_there i s l = (step (next_in c) (home_in c) (bucket_of b) i s.going l).4
+      each : (o : Option Body) → is_some (option_map (λ (_ : Body). (get_or c.nodes i d).block) o) ≡ true → block_number (option_map (λ (_ : Body). (get_or c.nodes i d).block) o) ≡ (get_or c.nodes i d).block.number
+      each (Some y) t = refl
+      each None t = absurd (both_ways false refl t)
 
-      each : (o : Option Block) → is_some o ≡ true → block_number o ≡ b → is_number b o ≡ true
-      each (Some k) t e = eq-eqb k.number b e
-      each None t e = absurd (both_ways _ refl t)
+  -- the node is compared with the block
+  pub is_it : (i : ℕ) (d : Node) → Search c b i → i < 256 → eqb (get_or c.nodes i d).block.number b ≡ true → block_in c i ≡ b
+  is_it i d s l t = own_block i d s l ∙ eqb-true (get_or c.nodes i d).block.number b t
+
+  pub goes_past : (i : ℕ) (d : Node) → Search c b i → i < 256 → eqb (get_or c.nodes i d).block.number b ≡ false → Search c b (next_in c i)
+  goes_past i d s l f = goes_on i s l (λ e. both_ways _ f (eq-eqb (get_or c.nodes i d).block.number b (sym (own_block i d s l) ∙ e)))
 
   pub ends : (i : ℕ) → Search c b i → 256 ≤ i → body_of c b ≡ None
   ends i s l = no_body c b (sym s.same ∙ nowhere (next_in c) (home_in c) (bucket_of b) i s.going (block_in c) b l)
 
   pub shorter : (i : ℕ) → Search c b i → i < 256 → length (walk (next_in c) 256 i) ≡ length (walk (next_in c) 256 (next_in c i)) + 1
   shorter i s l = falls (next_in c) (home_in c) (bucket_of b) i s.going l
-
-  pub home : (i : ℕ) → Search c b i → i < 256 → home_in c i ≡ bucket_of b
-  home i s l = (step (next_in c) (home_in c) (bucket_of b) i s.going l).4
 
 -- a linked node's block
 pub linked_block : (c : Chains) (b i : ℕ) → Search c b i → i < 256 → block_in c i ≡ b → block_of_node c i ≡ Some b
@@ -243,7 +253,7 @@ pub linked_small : (c : Chains) (i b : ℕ) → block_of_node c i ≡ Some b →
 linked_small c i b e = ⊎_elim
     (λ l. l)
     (λ g. let w = c.wide in
-    let none : block_of_node c i ≡ None = ap (λ o. option_map (λ (k : Block). k.number) (option_and_then (λ (n : Node). n.block) o)) (slice_get_past c.nodes i (omega arith)) in
+    let none : block_of_node c i ≡ None = ap (λ o. option_map (λ (k : Block). k.number) (option_and_then owner_in o)) (slice_get_past c.nodes i (omega arith)) in
     absurd (both_ways _ (ap is_some none) (ap is_some e)))
     (cases_lt i 256)
 

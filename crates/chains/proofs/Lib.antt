@@ -5,5 +5,6 @@ pub mod Alone
 pub mod Linking
 pub mod Steps
 pub mod Held
+pub mod Buckets
 pub mod Changes
 pub mod Fresh

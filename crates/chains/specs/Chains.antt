@@ -1,5 +1,5 @@
 -- What is held of each block.
-use Rattle.std.specs.Prelude.{◌≡◌, ℕ, ◌^◌, ◌≤◌, length, is_some, Some, None, Option, MatchOption, slice_index_or}
+use Rattle.std.specs.Prelude.{◌≡◌, ℕ, ◌^◌, ◌≤◌, ◌&&◌, ◌==◌, is_some, Some, None, Option, MatchOption, option_and_then, slice_index_or}
 use Rattle.std.specs.Option.{option_map}
 use Rattle.std.specs.List.{slice_get}
 use Rattle.words.specs.Layout.{bucket_of}
@@ -9,15 +9,16 @@ use Rattle.chains.specs.declared.chains.Chains.{Chains}
 use Rattle.chains.specs.declared.node.Body.{Body}
 use Rattle.chains.specs.declared.node.Found.{Found}
 use Rattle.chains.specs.declared.node.Way.{Way}
-use Rattle.chains.specs.Nodes.{link_at, block_at, owner, home_at, chain_from, node_for, IsPlace}
+use Rattle.chains.specs.Contents.{body_in}
+use Rattle.chains.specs.Nodes.{link_at, block_at, owner, home_at, node_for, IsPlace}
 
 -- the node of the block, or 256
 abbrev pub node_of : Chains → ℕ → ℕ
 node_of c b = node_for (link_at c.links) (block_at c.nodes) b
 
--- what the node i holds
+-- what the node i holds, where it is not free
 abbrev pub body_at : Chains → ℕ → Option Body
-body_at c i = option_map (λ n. n.body) (slice_get c.nodes i)
+body_at c i = option_and_then body_in (slice_get c.nodes i)
 
 -- what is held of the block
 abbrev pub body_of : Chains → ℕ → Option Body
@@ -27,12 +28,16 @@ body_of c b = body_at c (node_of c b)
 abbrev pub block_of_node : Chains → ℕ → Option ℕ
 block_of_node c i = option_map (λ b. b.number) (owner c.nodes i)
 
+-- how many nodes are on the chain of the bucket k: as many as blocks of that bucket have a node
+abbrev pub nodes_in : Chains → ℕ → ℕ
+nodes_in c k = how_many (λ b. is_some (body_of c b) && bucket_of b == k) (2 ^ 48)
+
 -- the block's node was found after that many nodes of its chain
 pub record Finds (c : Chains) (b : ℕ) (f : Found) : Type 0 where
   pub node : node_of c b ≡ f.node
   pub block : block_of_node c f.node ≡ Some b
   pub some : 1 ≤ f.looked
-  pub most : f.looked ≤ length (chain_from (link_at c.links) (bucket_of b))
+  pub most : f.looked ≤ nodes_in c (bucket_of b)
 
 -- the block's node was found, and a place of its chain whose link leads to it
 pub record Leads (c : Chains) (b : ℕ) (w : Way) : Type 0 where
@@ -44,7 +49,7 @@ pub record Leads (c : Chains) (b : ℕ) (w : Way) : Type 0 where
 abbrev pub Puts : Chains → ℕ → Option Body → Chains → Type 0
 Puts c b y d = body_of d ≡ at (body_of c) b y
 
--- a node's body was written: that of its block, where it is linked
+-- a body was written on a node: that of its block, where it is linked; nothing else
 abbrev pub Writes : Chains → ℕ → Body → Chains → Type 0
 Writes c i y d = MatchOption (block_of_node c i) (body_of d ≡ body_of c) (λ b. Puts c b (Some y) d)
 

@@ -1,4 +1,5 @@
 pub mod Blocks
+pub mod Contents
 pub mod Counting
 pub mod Faults
 pub mod Links

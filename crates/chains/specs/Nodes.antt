@@ -5,6 +5,7 @@ use Rattle.words.specs.declared.address.Block.{Block}
 use Rattle.words.specs.Layout.{bucket_of}
 use Rattle.chains.specs.declared.node.Node.{Node}
 use Rattle.chains.specs.Blocks.{block_number}
+use Rattle.chains.specs.Contents.{owner_in}
 use Rattle.chains.specs.Links.{walk, chained, node_with, no_twice, on}
 
 -- a link as a number: 256 where there is no next node
@@ -27,7 +28,7 @@ AllFree ls = (i : ℕ) → i < 321 → FreeLink i (slice_index_or ls i None)
 
 -- the block of a node, which one that is linked has
 abbrev pub owner : List Node → ℕ → Option Block
-owner ns i = option_and_then (λ n. n.block) (slice_get ns i)
+owner ns i = option_and_then owner_in (slice_get ns i)
 
 abbrev pub is_linked : List Node → ℕ → Bool
 is_linked ns i = is_some (owner ns i)

@@ -4,9 +4,9 @@ ghost use Rattle.words.specs.Points.{at};
 ghost use Rattle.chains.specs.Counting.{how_many};
 ghost use Rattle.chains.specs.Nodes.{Sound, Single, Kept, AllFree, FreeLink, is_linked, is_held};
 
-use crate::node::{Body, Found, NoNode, Node, RowNumber, Way};
+use crate::node::{Body, Content, Found, NoNode, Node, Way};
 use std::array;
-use words::Block;
+use words::{Block, Page};
 
 // Of the places of the links: the first head, and the head of the free nodes.
 const HEADS: usize = 256;
@@ -54,8 +54,8 @@ impl Chains {
         ensures { (b : ℕ) → body_of result b ≡ None }
     {
         let spare = Node {
-            block: None,
-            body: Body::Row(RowNumber::first()),
+            block: Page::of_address(0).block(),
+            content: Content::Free,
         };
         Chains {
             links: free_links(),
@@ -79,18 +79,22 @@ impl Chains {
         Some(self.way_to(block)?.found)
     }
 
-    // What a node holds.
-    pub fn body(&self, node: u8) -> Body
-        ensures { body_at self.now node ≡ Some result }
+    // What a node holds; none where it is free.
+    pub fn body(&self, node: u8) -> Option<Body>
+        ensures { result ≡ body_at self.now node }
     {
-        self.nodes[usize::from(node)].body
+        self.nodes[usize::from(node)].body()
     }
 
-    // Writes what a node holds.
+    // Writes what a node holds; one that is free stays so.
     pub fn replace(&mut self, node: u8, body: Body)
         ensures { Writes self.old node body self.new }
     {
-        self.nodes[usize::from(node)].body = body;
+        let own = usize::from(node);
+        let node = self.nodes[own];
+        if node.body().is_some() {
+            self.nodes[own] = Node::of(node.block, body);
+        }
     }
 
     // Writes what is held of the block, on a new node where it has none.
@@ -114,7 +118,9 @@ impl Chains {
         ensures held { Puts self.old block.number None self.new }
     {
         let way = self.way_to(block)?;
-        Some(self.unlink(block, way))
+        let body = self.body(way.found.node);
+        self.unlink(block, way);
+        body
     }
 
     // The block's node, with the place whose link leads to it.
@@ -148,18 +154,14 @@ impl Chains {
         self.links[own] = first;
         self.links[FREE] = rest;
         self.links[head] = Some(node);
-        self.nodes[own] = Node {
-            block: Some(block),
-            body,
-        };
+        self.nodes[own] = Node::of(block, body);
         self.count += 1;
     }
 
-    // Unlinks the block's node; what it held.
-    fn unlink(&mut self, block: Block, way: Way) -> Body
+    // Unlinks the block's node.
+    fn unlink(&mut self, block: Block, way: Way)
         requires { Leads self.old block.number way }
-        ensures answer { Some result ≡ body_of self.old block.number }
-        ensures held { Puts self.old block.number None self.new }
+        ensures { Puts self.old block.number None self.new }
     {
         let own = usize::from(way.found.node);
         let rest = self.links[own];
@@ -167,9 +169,10 @@ impl Chains {
         self.links[way.place] = rest;
         self.links[own] = free;
         self.links[FREE] = Some(way.found.node);
-        let body = self.nodes[own].body;
-        self.nodes[own] = Node { block: None, body };
+        self.nodes[own] = Node {
+            block,
+            content: Content::Free,
+        };
         self.count -= 1;
-        body
     }
 }

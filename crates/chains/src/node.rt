@@ -1,6 +1,5 @@
 // A node, and what it holds of its block.
-ghost use Rattle.std.specs.Prelude.{◌≡◌, ◌<◌, Some};
-ghost use Rattle.chains.specs.Blocks.{is_number};
+ghost use Rattle.std.specs.Prelude.{◌≡◌, ◌<◌, Some, ◌==◌};
 ghost use Rattle.chains.specs.Faults.{no_node_left};
 
 use std::error::Error;
@@ -29,19 +28,50 @@ pub enum Body {
     Row(RowNumber),
 }
 
-// A node that has no block is free. It keeps a body then too, since any node can be asked for what it holds: with an `Option` of both that
-// question could fail.
+// What a node has: nothing where it is free, else a body. One enum, and no `Option` of a body: the tag of each would be a word of its own,
+// and the 256 nodes would not fit beside the rows in the room that the table may take.
+#[derive(Clone, Copy, PartialEq, Eq, Debug)]
+pub enum Content {
+    Free,
+    Compact(CompactWord),
+    Row(RowNumber),
+}
+
+// The block of a free node is of no account: a search compares only the nodes of its chain, and none of those is free.
 #[derive(Clone, Copy, PartialEq, Eq, Debug)]
 pub struct Node {
-    pub block: Option<Block>,
-    pub body: Body,
+    pub block: Block,
+    pub content: Content,
 }
 
 impl Node {
-    pub(crate) fn is_of(&self, block: Block) -> bool
-        ensures { result ≡ is_number block.number self.now.block }
+    ghost use Rattle.chains.specs.Contents.{body_in, Has};
+
+    pub(crate) fn of(block: Block, body: Body) -> Node
+        ensures { (result.block ≡ block) × Has result body }
     {
-        self.block == Some(block)
+        let content = match body {
+            Body::Compact(word) => Content::Compact(word),
+            Body::Row(row) => Content::Row(row),
+        };
+        Node { block, content }
+    }
+
+    pub(crate) fn is_of(&self, block: Block) -> bool
+        ensures { result ≡ (self.now.block.number == block.number) }
+    {
+        self.block == block
+    }
+
+    // None where the node is free.
+    pub(crate) fn body(&self) -> Option<Body>
+        ensures { result ≡ body_in self.now }
+    {
+        match self.content {
+            Content::Free => None,
+            Content::Compact(word) => Some(Body::Compact(word)),
+            Content::Row(row) => Some(Body::Row(row)),
+        }
     }
 }
 

@@ -5,7 +5,7 @@ use Rattle.chains.proofs.chains.Chains.push.Goals as goal
 pub overflow_add-self : goal.overflow_add-self
 overflow_add-self c =
     let r = c.requires in
-    let l = push_room c.args.self.now c.args.block c.args.body c.bucket-head.result _ c.args.node c.bucket-head.ensures c.from-own.ensures r.absent r.free (omega arith) (omega arith) in
+    let l = push_room c.args.self.now c.args.block c.of.result c.args.body c.bucket-head.result _ c.args.node c.of.ensures.0 c.of.ensures.1 c.bucket-head.ensures c.from-own.ensures r.absent r.free (omega arith) (omega arith) in
     omega arith
 
 pub invariant_of-self : goal.invariant_of-self
@@ -15,6 +15,8 @@ invariant_of-self c =
     let y = c.args.body in
     let h = c.bucket-head.result in
     let n = c.args.node in
+    let m = c.of.result in
+    let o = c.of.ensures in
     let e = c.bucket-head.ensures in
     let f = c.from-own.ensures in
     let r = c.requires in
@@ -22,14 +24,14 @@ invariant_of-self c =
     let wl : length s.links ≡ 321 = omega arith in
     record {
       wide = length-set s.nodes _ _ ∙ s.wide;
-      sound = pushed_sound s b y h _ n e f r.absent r.free small wl;
-      single = pushed_single s b y h _ n e f r.absent r.free small wl;
-      kept = pushed_kept s b y h _ n e f r.absent r.free small wl;
-      counted = pushed_counted s b y h _ n e f r.absent r.free small wl;
-      held = pushed_held s b y h _ n e f r.absent r.free small wl;
+      sound = pushed_sound s b m y h _ n o.0 o.1 e f r.absent r.free small wl;
+      single = pushed_single s b m y h _ n o.0 o.1 e f r.absent r.free small wl;
+      kept = pushed_kept s b m y h _ n o.0 o.1 e f r.absent r.free small wl;
+      counted = pushed_counted s b m y h _ n o.0 o.1 e f r.absent r.free small wl;
+      held = pushed_held s b m y h _ n o.0 o.1 e f r.absent r.free small wl;
     }
 
 pub returns : goal.returns
 returns c =
     let r = c.requires in
-    pushed_puts c.args.self.now c.args.block c.args.body c.bucket-head.result _ c.args.node c.bucket-head.ensures c.from-own.ensures r.absent r.free (omega arith) (omega arith)
+    pushed_puts c.args.self.now c.args.block c.of.result c.args.body c.bucket-head.result _ c.args.node c.of.ensures.0 c.of.ensures.1 c.bucket-head.ensures c.from-own.ensures r.absent r.free (omega arith) (omega arith)

@@ -1,13 +1,13 @@
-use Rattle.std.proofs.Common.{◌≡◌, length, get_or, ◌∙◌, arith, length-set}
+use Rattle.std.proofs.Common.{◌≡◌, length, ◌∙◌, arith, length-set}
 use Rattle.chains.proofs.Held.{linked_small}
-use Rattle.chains.proofs.Changes.{unlinked_sound, unlinked_single, unlinked_kept, unlinked_counted, unlinked_held, unlinked_puts, unlinked_body}
+use Rattle.chains.proofs.Changes.{unlinked_sound, unlinked_single, unlinked_kept, unlinked_counted, unlinked_held, unlinked_puts}
 use Rattle.chains.proofs.chains.Chains.unlink.Goals as goal
 
 pub overflow_sub-self : goal.overflow_sub-self
 overflow_sub-self c =
     let s = c.args.self.now in
     let r = c.requires in
-    let n = unlinked_counted s c.args.block c.args.way _ c.index-self-own.result.body r c.from-own.ensures (linked_small s _ _ r.found.block) (omega arith) in
+    let n = unlinked_counted s c.args.block c.args.way _ r c.from-own.ensures (linked_small s _ _ r.found.block) (omega arith) in
     omega arith
 
 pub invariant_of-self : goal.invariant_of-self
@@ -17,16 +17,15 @@ invariant_of-self c =
     let w = c.args.way in
     let r = c.requires in
     let e = c.from-own.ensures in
-    let y = (get_or s.nodes c.from-own.result c.index-self-own.result).body in
     let small = linked_small s _ _ r.found.block in
     let wl : length s.links ≡ 321 = omega arith in
-    let n = unlinked_counted s b w _ y r e small wl in
-    let h = unlinked_held s b w _ y r e small wl in
+    let n = unlinked_counted s b w _ r e small wl in
+    let h = unlinked_held s b w _ r e small wl in
     record {
       wide = length-set s.nodes _ _ ∙ s.wide;
-      sound = unlinked_sound s b w _ y r e small wl;
-      single = unlinked_single s b w _ y r e small wl;
-      kept = unlinked_kept s b w _ y r e small wl;
+      sound = unlinked_sound s b w _ r e small wl;
+      single = unlinked_single s b w _ r e small wl;
+      kept = unlinked_kept s b w _ r e small wl;
       counted = omega arith;
       held = omega arith;
     }
@@ -36,7 +35,4 @@ returns c =
     let s = c.args.self.now in
     let r = c.requires in
     let small = linked_small s _ _ r.found.block in
-    record {
-      answer = unlinked_body s c.args.block c.args.way _ c.index-self-own.result.body r c.from-own.ensures small (omega arith) c.index-self-own.result;
-      held = unlinked_puts s c.args.block c.args.way _ (get_or s.nodes c.from-own.result c.index-self-own.result).body r c.from-own.ensures small (omega arith);
-    }
+    unlinked_puts s c.args.block c.args.way _ r c.from-own.ensures small (omega arith)

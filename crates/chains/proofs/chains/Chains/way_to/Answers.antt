@@ -1,9 +1,9 @@
-use Rattle.std.proofs.Common.{◌+◌, ◌<◌, length, get_or, sym, ap, ◌∙◌, subst, inr, arith}
+use Rattle.std.proofs.Common.{◌+◌, ◌<◌, eqb, length, get_or, sym, ap, ◌∙◌, subst, inr, arith}
 use Rattle.words.specs.Layout.{bucket_of}
-use Rattle.chains.specs.Blocks.{is_number}
 use Rattle.chains.specs.Links.{walk}
 use Rattle.chains.specs.Nodes.{link_number}
 use Rattle.chains.proofs.Held.{next_in, home_in, Search, at_it, is_it, goes_past, ends, shorter, home, linked_block}
+use Rattle.chains.proofs.Buckets.{chain_count}
 use Rattle.chains.proofs.Steps.{length_most}
 use Rattle.chains.proofs.chains.Chains.way_to.Goals as goal
 
@@ -21,10 +21,11 @@ returns-then-is_of c =
     let q = c.loop-place.invariant in
     let small : i < 256 = omega arith in
     let at_i : Search s b i = subst (Search s b) (ap link_number c.in-Some.is) q.search in
-    let own = is_it s b i c.index-self-from.result small (ap (λ k. is_number b (get_or s.nodes k c.index-self-from.result).block) (sym c.from.ensures) ∙ sym c.is_of.ensures ∙ c.if-is_of.true) in
+    let own = is_it s b i c.index-self-from.result at_i small (ap (λ k. eqb (get_or s.nodes k c.index-self-from.result).block.number b) (sym c.from.ensures) ∙ sym c.is_of.ensures ∙ c.if-is_of.true) in
     let d = shorter s b i at_i small in
     let e = ap (λ k. length (walk (next_in s) 256 k)) (ap link_number c.in-Some.is) in
     let p = q.passed in
+    let most = chain_count s (bucket_of b) (omega arith) in
     record {
       found = record { node = at_it s b i at_i small own; block = linked_block s b i at_i small own; some = omega arith; most = omega arith };
       place = q.place;
@@ -57,7 +58,7 @@ loop-place-preserved c =
     let k = c.from-place.ensures in
     record {
       search = subst (λ k. Search s b (next_in s k)) (sym c.from-place.ensures)
-          (goes_past s b i c.index-self-from.result at_i small (ap (λ k. is_number b (get_or s.nodes k c.index-self-from.result).block) (sym c.from.ensures) ∙ sym c.is_of.ensures ∙ c.if-is_of.false));
+          (goes_past s b i c.index-self-from.result at_i small (ap (λ k. eqb (get_or s.nodes k c.index-self-from.result).block.number b) (sym c.from.ensures) ∙ sym c.is_of.ensures ∙ c.if-is_of.false));
       place = inr (omega arith, ap (home_in s) c.from-place.ensures ∙ home s b i at_i small);
       passed = omega arith;
     }
