@@ -1,18 +1,18 @@
 -- As many nodes are on a chain as there are blocks of its bucket that have one.
-use Rattle.std.proofs.Common.{◌≡◌, ℕ, ◌+◌, ◌^◌, ◌<◌, Bool, true, false, ◌&&◌, eqb, ltb, List, [], ◌∷◌, length, is_some, Some, None, Option, sym, refl, ap, ◌∙◌, ⊎_elim, arith}
+use Rattle.std.proofs.Common.{◌≡◌, ℕ, ◌+◌, ◌^◌, ◌<◌, ◌≤◌, Bool, true, false, ◌&&◌, eqb, ltb, List, [], ◌∷◌, length, is_some, Some, None, Option, sym, refl, ap, ◌∙◌, ⊎_elim, arith}
 use mathlib.Core.Path.{fun_ext}
-use Rattle.std.proofs.lemmas.Bool.{cases_eq, cases_Bool, eq-eqb, ne_eqb, eqb-true, lt-ltb, le-ltb, ltb-true, and_parts}
+use Rattle.std.proofs.lemmas.Bool.{cases_lt, cases_eq, cases_Bool, eq-eqb, ne_eqb, eqb-true, lt-ltb, le-ltb, ltb-true, and_parts}
 use Rattle.words.specs.Layout.{bucket_of}
 use Rattle.words.specs.Points.{at}
 use Rattle.words.specs.declared.address.Block.{Block}
 use Rattle.chains.specs.declared.chains.Chains.{Chains}
 use Rattle.chains.specs.Blocks.{block_number}
-use Rattle.chains.specs.Chains.{body_of, nodes_in}
+use Rattle.chains.specs.Chains.{body_of, node_of, nodes_in}
 use Rattle.chains.specs.Counting.{how_many}
 use Rattle.chains.specs.Links.{node_with, no_twice}
-use Rattle.chains.specs.Nodes.{owner, chain_from}
-use Rattle.chains.proofs.Counts.{one, many_at, many_none}
-use Rattle.chains.proofs.Held.{next_in, home_in, block_in, chain, held_some, flag_of_home, node_on}
+use Rattle.chains.specs.Nodes.{owner, is_linked, chain_from}
+use Rattle.chains.proofs.Counts.{one, many_at, many_most, many_none}
+use Rattle.chains.proofs.Held.{next_in, home_in, block_in, chain, count_all, held_some, flag_of_home, no_body, node_of_block, node_of_most, node_on}
 use Rattle.chains.proofs.Linking.{at_here, at_there, at_home}
 use Rattle.chains.proofs.Walks.{Chained, node_here, node_past, node_none}
 
@@ -73,3 +73,14 @@ module _ (c : Chains) (k : ℕ) (lt : k < 64) where
 
   pub chain_count : length (chain_from (next_in c) k) ≡ nodes_in c k
   chain_count = sym (blocks_on (next_in c) (home_in c) (block_in c) (2 ^ 48) k _ (chain_from (next_in c) k) block_small own (c.single k lt)) ∙ ap (λ t. how_many t (2 ^ 48)) (fun_ext same)
+
+-- no block of another number has a node
+pub no_body_past : (c : Chains) (d : ℕ) → 2 ^ 48 ≤ d → body_of c d ≡ None
+no_body_past c d g = no_body c d (⊎_elim
+    (λ l. let s = block_small c 0 (omega arith) (node_of c d) in let e = (node_of_block c d l).1 in absurd (omega arith))
+    (λ h. let m = node_of_most c d in omega arith)
+    (cases_lt (node_of c d) 256))
+
+-- at most as many blocks have a node as there are nodes
+pub held_most : (c : Chains) → how_many (λ b. is_some (body_of c b)) (2 ^ 48) ≤ 256
+held_most c = let e = count_all c in let f = c.counted in let m = many_most (is_linked c.nodes) 256 in omega arith

@@ -13,10 +13,10 @@ pub struct RowNumber {
     ghost within: { number < 128 },
 }
 
-impl RowNumber {
-    pub fn first() -> RowNumber
-        ensures { result.number ≡ 0 }
-    {
+impl Default for RowNumber {
+    ghost is_default = { λ row. row.number ≡ 0 };
+
+    fn default() -> RowNumber {
         RowNumber { number: 0 }
     }
 }

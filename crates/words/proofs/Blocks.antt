@@ -87,7 +87,7 @@ pub sound_reading : (g : Form) (w o : ℕ) → is_word g w ≡ true → o < 16 �
 sound_reading form.Compact w o s h = cond-true (is_compact w && leb o 15) _ _ (and_from (is_compact w) _ s (le-leb o 15 (omega arith)))
 sound_reading form.Full w o s h = cond-true (is_full w && leb o 15) _ _ (and_from (is_full w) _ s (le-leb o 15 (omega arith)))
 
-full_says : (x : Option Translation) (o : ℕ) → said form.Full (page_word x) o ≡ x
+pub full_says : (x : Option Translation) (o : ℕ) → said form.Full (page_word x) o ≡ x
 full_says None o = refl
 full_says (Some t) o =
     let f = t.frames in

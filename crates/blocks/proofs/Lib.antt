@@ -1,0 +1,11 @@
+pub mod Bits
+pub mod Shapes
+pub mod RowPages
+pub mod Spare
+pub mod Counted
+pub mod Pages
+pub mod Steps
+pub mod Rooms
+pub mod Same
+pub mod Turns
+pub mod Looks

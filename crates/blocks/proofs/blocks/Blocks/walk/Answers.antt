@@ -1,0 +1,22 @@
+use Rattle.std.proofs.Common.{sym, ap, ◌∙◌}
+use Rattle.words.specs.Reading.{said}
+use Rattle.words.specs.Words.{form_of, bits_of}
+use Rattle.words.specs.Blocks.{page_word}
+use Rattle.blocks.specs.Rows.{row_pages}
+use Rattle.blocks.proofs.Looks.{walks_word, walks_row}
+use Rattle.blocks.proofs.blocks.Blocks.walk.Goals.{in-Compact, in-Row}
+use Rattle.blocks.proofs.blocks.Blocks.walk.Goals as goal
+
+pub returns : goal.returns
+returns c =
+    let s = c.args.self.now in
+    let p = c.args.page.number in
+    let f = c.in_ok-found.found in
+    let v = c.match-branch-3.word in
+    let has = sym c.body.ensures ∙ c.in_ok-word.was in
+    let read = ap (said (form_of v) (bits_of v)) (sym c.offset-2.ensures) ∙ sym c.read.ensures ∙ c.in_ok-read.was in
+    elim c.match-branch-3.branch [
+      | in-Compact w ↦ walks_word s p c.block.result.number f c.in_ok-word.field-0 c.block.ensures c.in_ok-found.ensures has w.in-Compact.word v c.in_ok-read.field-0 w.in-Compact.is w.word-is read
+      | in-Row w ↦ walks_row s p c.block.result.number f c.in_ok-word.field-0 c.block.ensures c.in_ok-found.ensures has w.in-Row.row w.word.result v c.in_ok-read.field-0 w.in-Row.is w.word-is
+          (w.word.ensures ∙ ap (λ o. page_word (row_pages s.rows.rows w.in-Row.row.number o)) w.offset.ensures) read
+    ]

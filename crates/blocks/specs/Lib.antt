@@ -1,0 +1,5 @@
+pub mod Shapes
+pub mod Rows
+pub mod Faults
+pub mod Held
+pub mod Blocks

@@ -1,0 +1,167 @@
+// What each block holds: its node, and its row where no compact word can have its pages.
+ghost use Rattle.std.specs.Prelude.{◌≡◌, ℕ, ◌+◌, ◌^◌, ◌<◌, true, None, Some, MatchOption, MatchResult};
+ghost use Rattle.arrayvec.specs.ArrayVec.{array_vec_len};
+ghost use Rattle.words.specs.Points.{at};
+ghost use Rattle.chains.specs.Counting.{how_many};
+ghost use Rattle.blocks.specs.Shapes.{InPlace};
+ghost use Rattle.blocks.specs.Rows.{occurs};
+ghost use Rattle.blocks.specs.Held.{has_row, is_narrow, owners, block_pages, word_body, HasNode};
+ghost use Rattle.chains.specs.Chains.{body_of};
+ghost use Rattle.chains.specs.declared.node.Body.TheVariants.{Row as OnRow};
+ghost use Rattle.words.specs.Layout.{page_at};
+
+use crate::fault::NoRoom;
+use crate::row::Row;
+use crate::rows::Rows;
+use crate::shape::{Shape, changed};
+use chains::{Body, Chains, RowNumber};
+use words::{Block, CompactWord, Offset, Page, Translation, Word};
+
+// Each row is spare or of just one block. A block has a row exactly where no compact word can have its pages; where one can, its node has
+// that word.
+#[derive(Drop)]
+pub struct Blocks {
+    chains: Chains,
+    rows: Rows,
+    ghost lent: { (i : ℕ) → i < 128 → occurs i rows.spare.items + owners chains i ≡ 1 },
+    ghost taken: { array_vec_len rows.spare + how_many (has_row chains) (2 ^ 48) ≡ 128 },
+    ghost narrow: { (b : ℕ) → is_narrow (body_of chains b) ≡ true },
+    ghost mixed: { (b k a : ℕ) → has_row chains b ≡ true → InPlace (block_pages chains rows.rows b) k a → ⊥ },
+}
+
+// A page that was looked up: the word that stands for it, and how many nodes were looked at.
+#[derive(Clone, Copy, PartialEq, Eq, Debug)]
+pub struct Walked {
+    pub word: Word,
+    pub looked: u16,
+}
+
+impl Blocks {
+    ghost use Rattle.blocks.specs.Blocks.{held, Walks, Sets, Refuses, UsedBlocks, RowedBlocks};
+
+    // No page is mapped.
+    pub fn new() -> Blocks
+        ensures { (p : ℕ) → held result p ≡ None }
+    {
+        Blocks {
+            chains: Chains::new(),
+            rows: Rows::new(),
+        }
+    }
+
+    // How many blocks have a mapped page.
+    pub fn used(&self) -> u16
+        ensures { UsedBlocks (held self.now) result }
+    {
+        self.chains.count()
+    }
+
+    // How many blocks have pages that no compact word can have.
+    pub fn rowed(&self) -> usize
+        ensures { RowedBlocks (held self.now) result }
+    {
+        self.rows.used()
+    }
+
+    // The word of a page; none where it is not mapped.
+    pub fn walk(&self, page: Page) -> Option<Walked>
+        ensures { MatchOption result (held self.now page.number ≡ None) (λ w. Walks (held self.now) page.number w) }
+    {
+        let found = self.chains.find(page.block())?;
+        let word = match self.chains.body(found.node)? {
+            Body::Compact(word) => Word::Compact(word),
+            Body::Row(row) => Word::Full(self.rows.word(row, page.offset())),
+        };
+        word.read(page.offset())?;
+        Some(Walked {
+            word,
+            looked: found.looked,
+        })
+    }
+
+    // Maps a page to a translation, or to none.
+    pub fn set(&mut self, page: Page, to: Option<Translation>) -> Result<(), NoRoom>
+        ensures { MatchResult result
+            (λ _. Sets (held self.old) page.number to (held self.new))
+            (λ e. Refuses e (held self.old) page.number to × (self.new ≡ self.old)) }
+    {
+        let block = page.block();
+        let offset = page.offset();
+        match self.node(block) {
+            None => self.set_word(block, offset, None, to),
+            Some((_, Body::Compact(word))) => self.set_word(block, offset, Some(word), to),
+            Some((node, Body::Row(row))) => {
+                self.set_row(block, node, row, offset, to);
+                Ok(())
+            }
+        }
+    }
+
+    // The node of a block, and what it has.
+    fn node(&self, block: Block) -> Option<(u8, Body)>
+        ensures { MatchOption result (body_of self.now.chains block.number ≡ None) (λ n. HasNode self.now.chains block.number n) }
+    {
+        let found = self.chains.find(block)?;
+        let body = self.chains.body(found.node)?;
+        Some((found.node, body))
+    }
+
+    // Maps a page of a block that has no row: its pages are those of a word, or there is none.
+    fn set_word(
+        &mut self,
+        block: Block,
+        offset: Offset,
+        word: Option<CompactWord>,
+        to: Option<Translation>,
+    ) -> Result<(), NoRoom>
+        requires { body_of self.old.chains block.number ≡ word_body word }
+        ensures { MatchResult result
+            (λ _. Sets (held self.old) (page_at block.number offset.number) to (held self.new))
+            (λ e. Refuses e (held self.old) (page_at block.number offset.number) to × (self.new ≡ self.old)) }
+    {
+        match changed(word, offset, to) {
+            Shape::Empty => {
+                self.chains.remove(block);
+            }
+            Shape::Compact(grown) => self.chains.insert(block, Body::Compact(grown))?,
+            Shape::Mixed => {
+                if word.is_none() && self.chains.count() == 256 {
+                    return Err(NoRoom::NoNode);
+                }
+                let mut row = Row::of_word(word);
+                row.set(offset, to);
+                let Some(number) = self.rows.take(row) else {
+                    return Err(NoRoom::NoRow);
+                };
+                self.chains.insert(block, Body::Row(number))?;
+            }
+        }
+        Ok(())
+    }
+
+    // Maps a page of a block that has a row.
+    fn set_row(
+        &mut self,
+        block: Block,
+        node: u8,
+        row: RowNumber,
+        offset: Offset,
+        to: Option<Translation>,
+    )
+        requires { HasNode self.old.chains block.number (node, OnRow row) }
+        ensures { Sets (held self.old) (page_at block.number offset.number) to (held self.new) }
+    {
+        self.rows.set(row, offset, to);
+        match self.rows.shape(row) {
+            Shape::Empty => {
+                self.rows.give(row);
+                self.chains.remove(block);
+            }
+            Shape::Compact(word) => {
+                self.rows.give(row);
+                self.chains.replace(node, Body::Compact(word));
+            }
+            Shape::Mixed => {}
+        }
+    }
+}
