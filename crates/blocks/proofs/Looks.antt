@@ -43,10 +43,11 @@ module _ (s : Blocks) (p : ℕ) where
     pub found_body : body_of s.chains (block_of p) ≡ Some y
     found_body = ap (body_of s.chains) (sym own) ∙ ap (body_at s.chains) finds.node ∙ has
 
-    walks : (v : Word) (t : Translation) → held s p ≡ Some t → StandsFor (held s) p (form_of v) (bits_of v) → Walks (held s) p (record { word = v; looked = f.looked })
-    walks v t m w = record {
+    walks : (v : Word) (t : Translation) → held s p ≡ Some t → StandsFor (held s) p (form_of v) (bits_of v) → said (form_of v) (bits_of v) (offset_of p) ≡ Some t → Walks (held s) p (record { word = v; looked = f.looked })
+    walks v t m w r = record {
       mapped = (t, m);
       word = w;
+      says = r ∙ sym m;
       some = finds.some;
       most = (nodes_in s.chains (bucket_of (block_of p)), chain_of, (let e = ap (λ d. nodes_in s.chains (bucket_of d)) own in let l = finds.most in omega arith));
     }
@@ -55,7 +56,7 @@ module _ (s : Blocks) (p : ℕ) where
     walks_word w v t e i r =
         let here = found_body ∙ ap Some e in
         walks v t (body_says (OnWord w) here ∙ ap (λ u. said (form_of u) (bits_of u) (offset_of p)) (sym i) ∙ r)
-        (subst (λ u. StandsFor (held s) p (form_of u) (bits_of u)) (sym i) (block_word s (block_of p) w here))
+        (subst (λ u. StandsFor (held s) p (form_of u) (bits_of u)) (sym i) (block_word s (block_of p) w here)) r
 
     pub walks_row : (r : RowNumber) (w : FullWord) (v : Word) (t : Translation) → y ≡ OnRow r → v ≡ FullValue w → w.bits ≡ page_word (row_pages s.rows.rows r.number (offset_of p))
         → said (form_of v) (bits_of v) (offset_of p) ≡ Some t → Walks (held s) p (record { word = v; looked = f.looked })
@@ -65,4 +66,4 @@ module _ (s : Blocks) (p : ℕ) where
         let read : said form.Full w.bits (offset_of p) ≡ held s p = ap (λ x. said form.Full x (offset_of p)) bits ∙ full_says (row_pages s.rows.rows r.number (offset_of p)) (offset_of p) ∙ sym says in
         walks v t (sym read ∙ ap (λ u. said (form_of u) (bits_of u) (offset_of p)) (sym i) ∙ said_t)
         (subst (λ u. StandsFor (held s) p (form_of u) (bits_of u)) (sym i)
-        ((rowed s (block_of p) (ap (λ z. ltb (row_in z) 128) here ∙ lt-ltb r.number 128 r.within)).1, bits ∙ ap page_word (sym says)))
+        ((rowed s (block_of p) (ap (λ z. ltb (row_in z) 128) here ∙ lt-ltb r.number 128 r.within)).1, bits ∙ ap page_word (sym says))) said_t

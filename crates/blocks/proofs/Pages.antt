@@ -1,5 +1,5 @@
 -- What is held of a block's pages, and what that says of its body.
-use Rattle.std.proofs.Common.{◌≡◌, ℕ, zero, suc, ◌+◌, ◌*◌, ◌/◌, ◌%◌, ◌^◌, ◌<◌, Bool, true, false, cond, ltb, Some, None, Option, is_some, sym, refl, ap, ◌∙◌, ap₂, ⊎_elim, ◌⊎◌, inl, inr, arith}
+use Rattle.std.proofs.Common.{◌≡◌, ℕ, zero, suc, ◌+◌, ◌*◌, ◌/◌, ◌%◌, ◌^◌, ◌<◌, ◌≤◌, Bool, true, false, cond, ltb, Some, None, Option, is_some, sym, refl, ap, ◌∙◌, ap₂, ⊎_elim, ◌⊎◌, inl, inr, arith}
 use Rattle.std.proofs.lemmas.Bool.{cases_eq, cases_Bool, both_ways, and_parts, eqb-true, eqb-false, ltb-true, lt-ltb}
 use Rattle.std.proofs.lemmas.Nat.{mod-pow-add}
 use Rattle.words.specs.declared.compact.CompactWord.{CompactWord}
@@ -12,12 +12,14 @@ use Rattle.chains.specs.declared.node.Body.{Body}
 use Rattle.chains.specs.declared.node.Body.TheVariants.{Compact as OnWord, Row as OnRow}
 use Rattle.chains.specs.Chains.{body_of}
 use Rattle.chains.specs.Counting.{how_many}
+use Rattle.chains.proofs.Buckets.{held_most}
 use Rattle.blocks.specs.declared.blocks.Blocks.{Blocks}
 use Rattle.blocks.specs.declared.shape.Shape.TheVariants.{Mixed}
 use Rattle.blocks.specs.Blocks.{held, Rowed, UsedBlocks, RowedBlocks}
 use Rattle.blocks.specs.Held.{is_narrow, row_in, has_row, body_pages, block_pages}
 use Rattle.blocks.specs.Rows.{row_pages}
 use Rattle.blocks.specs.Shapes.{Pages, InPlace, Shapes}
+use Rattle.blocks.proofs.Counted.{by_blocks}
 use Rattle.blocks.proofs.Bits.{there, some_bit}
 
 -- a page of a block
@@ -166,3 +168,14 @@ module _ (s : Blocks) where
       there_some : (k a o : ℕ) (b : Bool) → is_some (there k a o b) ≡ b
       there_some k a o true = refl
       there_some k a o false = refl
+
+  -- at most sixteen pages of each block that is used
+  pub pages_most : how_many (λ p. is_some (held s p)) (2 ^ 52) ≤ 4096
+  pages_most =
+      let n = by_blocks (λ p. is_some (held s p)) (λ b. is_some (body_of s.chains b)) (2 ^ 48) (λ p f. none_here p (body_of s.chains (block_of p)) f) in
+      let m = held_most s.chains in
+      omega arith
+    where
+      none_here : (p : ℕ) (y : Option Body) → is_some y ≡ false → is_some (body_pages (row_pages s.rows.rows) y (offset_of p)) ≡ false
+      none_here p None f = refl
+      none_here p (Some y) f = absurd (both_ways _ f refl)

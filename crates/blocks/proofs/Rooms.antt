@@ -1,10 +1,10 @@
 -- What a change of one page asks for, and when there is room for it.
-use Rattle.std.proofs.Common.{◌≡◌, ℕ, ◌+◌, ◌^◌, ◌<◌, ◌≤◌, true, false, eqb, ltb, List, [], length, Some, None, Option, is_some, sym, refl, ap, ◌∙◌, subst, ⊎_elim, arith}
+use Rattle.std.proofs.Common.{Result, Ok, Err, MatchResult, ◌≡◌, ℕ, ◌+◌, ◌^◌, ◌<◌, ◌≤◌, true, false, eqb, ltb, List, [], length, Some, None, Option, is_some, sym, refl, ap, ◌∙◌, subst, ⊎_elim, arith}
 use Rattle.std.proofs.lemmas.Bool.{cases_eq, cases_Bool, both_ways, lt-ltb}
 use Rattle.words.specs.declared.compact.CompactWord.{CompactWord}
 use Rattle.words.specs.declared.translation.Translation.{Translation}
-use Rattle.words.specs.Layout.{offset_of, page_at, frame_block_in, attributes_in}
-use Rattle.words.specs.Blocks.{Mapping, Used}
+use Rattle.words.specs.Layout.{block_of, offset_of, page_at, frame_block_in, attributes_in}
+use Rattle.words.specs.Blocks.{Mapping, Used, Compact}
 use Rattle.words.specs.Points.{at}
 use Rattle.chains.specs.declared.chains.Chains.{Chains}
 use Rattle.chains.specs.declared.node.Body.{Body}
@@ -145,3 +145,28 @@ module _ (s : Blocks) (c : Chains) (rs : List Row) (spare : List RowNumber) (b o
     narrow = narrow_after s c rs b o x y t.small t.low t.puts t.others t.here t.narrow;
     mixed = mixed_after s c rs b o x y t.small t.low t.puts t.others t.here (λ v k a p. t.mixed v k a (λ i u l e. p i u l (t.here i l ∙ e)));
   }
+
+-- a page that is unmapped needs no room
+module _ (m : Mapping) (p : ℕ) where
+  abbrev less : Mapping
+  less = at m p None
+
+  was_mapped : (q : ℕ) (t : Translation) → less q ≡ Some t → m q ≡ Some t
+  was_mapped q t e = ⊎_elim
+      (λ i. absurd (both_ways _ (ap is_some (at_here m p None q i)) (ap is_some e)))
+      (λ ne. sym (at_there m p None q ne) ∙ e)
+      (cases_eq q p)
+
+  was_used : (b : ℕ) → Used less b → Used m b
+  was_used b (o, l, (t, e)) = (o, l, (t, was_mapped _ t e))
+
+  stays_compact : (b : ℕ) → Compact m b → Compact less b
+  stays_compact b (k, a, h) = (k, a, λ o t l e. h o t l (was_mapped _ t e))
+
+  pub always_room : (e : NoRoom) → Refuses e m p None → ⊥
+  always_room NoNode (u, nu, n) = nu (was_used (block_of p) u)
+  always_room NoRow (_, ((u, nc), nr, n)) = nr (was_used (block_of p) u, λ c. nc (stays_compact (block_of p) c))
+
+  pub cleared : (S : Type 0) (n : Mapping) (r : Result (Unit {0}) NoRoom) → MatchResult r (λ _. Sets m p None n) (λ e. Refuses e m p None × S) → n ≡ at m p None
+  cleared S n (Ok x) s = s.held
+  cleared S n (Err e) (r, _) = absurd (always_room e r)

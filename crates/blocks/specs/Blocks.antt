@@ -1,8 +1,9 @@
 -- What is held of the pages, and what a change of one page makes of it.
 use Rattle.std.specs.Prelude.{◌≡◌, ℕ, ◌^◌, ◌≤◌, Option}
 use Rattle.words.specs.declared.translation.Translation.{Translation}
-use Rattle.words.specs.Layout.{block_of, bucket_of}
+use Rattle.words.specs.Layout.{block_of, offset_of, bucket_of}
 use Rattle.words.specs.Points.{at}
+use Rattle.words.specs.Reading.{said}
 use Rattle.words.specs.Words.{form_of, bits_of}
 use Rattle.words.specs.Blocks.{Mapping, IsMapped, Used, Compact, StandsFor}
 use Rattle.chains.specs.Counting.{Exactly}
@@ -32,10 +33,12 @@ RowedBlocks m n = Exactly n (2 ^ 48) (Rowed m)
 abbrev pub ChainOf : Mapping → ℕ → ℕ → Type 0
 ChainOf m k n = Exactly n (2 ^ 48) (λ b. Used m b × (bucket_of b ≡ k))
 
--- the page p is mapped, w stands for it, and it was found after at most as many nodes as its chain has; which place a node has there is free
+-- the page p is mapped, the word stands for it and says what it is mapped to, and it was found after at most as many nodes as its chain has;
+-- which place a node has on its chain is free
 pub record Walks (m : Mapping) (p : ℕ) (w : Walked) : Type 0 where
   pub mapped : IsMapped m p
   pub word : StandsFor m p (form_of w.word) (bits_of w.word)
+  pub says : said (form_of w.word) (bits_of w.word) (offset_of p) ≡ m p
   pub some : 1 ≤ w.looked
   pub most : (n : ℕ) × ChainOf m (bucket_of (block_of p)) n × (w.looked ≤ n)
 

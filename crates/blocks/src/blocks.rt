@@ -57,7 +57,7 @@ impl Blocks {
     }
 
     // How many blocks have pages that no compact word can have.
-    pub fn rowed(&self) -> usize
+    pub fn rowed(&self) -> u16
         ensures { RowedBlocks (held self.now) result }
     {
         self.rows.used()
@@ -95,6 +95,13 @@ impl Blocks {
                 Ok(())
             }
         }
+    }
+
+    // Unmaps a page. A block that loses a page needs neither a node nor a row, so it is never refused.
+    pub fn clear(&mut self, page: Page)
+        ensures { held self.new ≡ at (held self.old) page.number None }
+    {
+        let _ = self.set(page, None);
     }
 
     // The node of a block, and what it has.

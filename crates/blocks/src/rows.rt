@@ -41,10 +41,10 @@ impl Rows {
     }
 
     // How many are not spare.
-    pub(crate) fn used(&self) -> usize
+    pub(crate) fn used(&self) -> u16
         ensures { result + array_vec_len self.now.spare ≡ 128 }
     {
-        128 - self.spare.len()
+        128 - self.spare.len() as u16
     }
 
     pub(crate) fn word(&self, row: RowNumber, offset: Offset) -> FullWord

@@ -12,6 +12,14 @@ pub one_most : (b : Bool) → one b ≤ 1
 one_most true = omega arith
 one_most false = omega arith
 
+pub many_nothing : (f : ℕ → Bool) → how_many f 0 ≡ 0
+unfolding how_many
+many_nothing f = refl
+
+pub many_next : (f : ℕ → Bool) (n : ℕ) → how_many f (suc n) ≡ one (f n) + how_many f n
+unfolding how_many
+many_next f n = refl
+
 pub many_same : (f h : ℕ → Bool) (n : ℕ) → ((k : ℕ) → k < n → f k ≡ h k) → how_many f n ≡ how_many h n
 unfolding how_many
 many_same f h zero e = refl
