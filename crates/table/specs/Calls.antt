@@ -1,5 +1,5 @@
 -- What the calls of a page table make of the map from pages to translations, and what they refuse.
-use Rattle.std.specs.Prelude.{◌≡◌, ℕ, ◌^◌, ◌<◌, List, [], ◌∷◌, Some, None, Option}
+use Rattle.std.specs.Prelude.{◌≡◌, ℕ, ◌^◌, ◌<◌, List, [], ◌∷◌, Some, None}
 use Rattle.std.specs.Option.{option_map}
 use Rattle.words.specs.declared.translation.Translation.{Translation}
 use Rattle.words.specs.Layout.{block_of}

@@ -1,9 +1,9 @@
 -- A plain map that is fed calls, and which of them were refused.
 use Rattle.std.specs.Prelude.{◌≡◌, ℕ, Bool, cond, List, [], ◌∷◌, map, MatchBool}
 use Rattle.words.specs.Blocks.{Mapping}
-use Rattle.table.specs.declared.replay.Call.{Call}
-use Rattle.table.specs.declared.replay.Call.TheVariants.{Map, Unmap, Protect, Walk, Census}
-use Rattle.table.specs.declared.replay.Event.{Event}
+use Rattle.table.specs.declared.events.Call.{Call}
+use Rattle.table.specs.declared.events.Call.TheVariants.{Map, Unmap, Protect, Walk, Census}
+use Rattle.table.specs.declared.events.Event.{Event}
 use Rattle.table.specs.Calls.{unmapped, mapped, protected, released, map_refusals, mapped_refusals, protect_refusals}
 use Rattle.table.specs.Refusals.{First, Accepted}
 

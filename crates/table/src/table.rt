@@ -85,17 +85,22 @@ impl PageTable {
     pub fn protect(&mut self, page: Page, attributes: u16) -> Result<u16, ProtectFault>
         ensures { MatchResult result
             (λ x. Accepted (protect_refusals (mapping self.old) page.number attributes)
-                × ((t : Translation) × (mapping self.old page.number ≡ Some t) × (x ≡ t.attributes))
-                × (mapping self.new ≡ protected (mapping self.old) page.number attributes))
+            × ((t : Translation) × (mapping self.old page.number ≡ Some t) × (x ≡ t.attributes))
+            × (mapping self.new ≡ protected (mapping self.old) page.number attributes))
             (λ e. First (protect_refusals (mapping self.old) page.number attributes) (protect_number e) × (self.new ≡ self.old)) }
     {
         if attributes > 4095 {
             return Err(ProtectFault::BadAttributes);
         }
         let former = self.lookup(page).ok_or(ProtectFault::NotMapped)?;
-        let translation = Translation::new(former.frame, attributes).ok_or(ProtectFault::BadAttributes)?;
-        self.blocks.set(page, Some(translation)).or(Err(ProtectFault::NoRow))?;
-        Ok(former.attributes)
+        let translation = Translation::new(former.frame, attributes).ok_or(
+            ProtectFault::BadAttributes,
+        )?;
+        match self.blocks.set(page, Some(translation)) {
+            Ok(()) => Ok(former.attributes),
+            // the block has a node
+            Err(_) => Err(ProtectFault::NoRow),
+        }
     }
 
     pub fn census(&self) -> Census
