@@ -108,7 +108,7 @@ impl PageTable {
     {
         Census {
             nodes: self.blocks.used(),
-            rows: self.blocks.rowed() as u16,
+            rows: self.blocks.rowed(),
             pages: self.pages,
         }
     }
