@@ -7,7 +7,8 @@ use Rattle.std.proofs.lemmas.List.Sorted.{IsPermutation-reverse, sum_by-IsPermut
 use Rattle.std.proofs.lemmas.Bool.Decides.{nat_tests}
 use Rattle.std.proofs.lemmas.Bool.{cases_lt, le-ltb, lt-leb, and_left, and_right, cond-false}
 use Rattle.frames.specs.Lists.{rising, occurs, due}
-use Rattle.frames.specs.Stock.{in_stock}
+use Rattle.frames.specs.declared.stock.Stock.{Stock}
+use Rattle.frames.specs.Stock.{first_frame, in_stock}
 
 -- no flag is set in a new list
 no_flag : (n i : ℕ) → get_or (replicate n false) i false ≡ false
@@ -63,5 +64,5 @@ new_once xs f i =
 pub new_frames : (xs : List ℕ) (first : ℕ) → Falls xs → map (λ i. first + i) (reverse xs) ≡ rising first 4096
 new_frames xs first f = ap (map (λ i. first + i)) (from_head xs f) ∙ map_rising first 0 4096 ∙ ap (λ x. rising x 4096) (omega arith)
 
-pub new_in : (first f : ℕ) → (in_stock first f && get_or (replicate 4096 false) (f - first) false) ≡ false
-new_in first f = and_right _ _ (no_flag 4096 (f - first))
+pub new_in : (s : Stock) (f : ℕ) → (in_stock s f && get_or (replicate 4096 false) (f - first_frame s) false) ≡ false
+new_in s f = and_right _ _ (no_flag 4096 (f - first_frame s))

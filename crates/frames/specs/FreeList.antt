@@ -3,21 +3,21 @@ use Rattle.std.specs.Prelude.{◌≡◌, ℕ, ◌+◌, ◌-◌, ◌*◌, Bool, f
 use Rattle.frames.specs.declared.free_list.FreeListAllocator.{FreeListAllocator}
 use Rattle.frames.specs.Lists.{rising}
 use Rattle.frames.specs.Meaning.{FramesMeaning}
-use Rattle.frames.specs.Stock.{in_stock}
+use Rattle.frames.specs.Stock.{first_frame, in_stock}
 
 -- the free frames, from the head on
 abbrev pub free_frames : FreeListAllocator → List ℕ
-free_frames s = map (λ i. s.stock.first + i) (reverse s.list.items)
+free_frames s = map (λ i. first_frame s.stock + i) (reverse s.list.items)
 
 abbrev pub list_stock : FreeListAllocator → ℕ → Bool
-list_stock s = in_stock s.stock.first
+list_stock s = in_stock s.stock
 
 abbrev pub list_out : FreeListAllocator → ℕ → Bool
-list_out s f = list_stock s f && slice_index_or s.out (f - s.stock.first) false
+list_out s f = list_stock s f && slice_index_or s.out (f - first_frame s.stock) false
 
 -- a new list rises from its lowest frame, 16 * g, and no frame is out
 pub record NewList (g : ℕ) (u : FreeListAllocator) : Type 0 where
-  pub first : u.stock.first ≡ 16 * g
+  pub first : first_frame u.stock ≡ 16 * g
   pub free : free_frames u ≡ rising (16 * g) 4096
   pub none : (f : ℕ) → list_out u f ≡ false
 

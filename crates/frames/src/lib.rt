@@ -6,6 +6,7 @@ mod fault;
 mod free_list;
 mod free_list_allocator;
 mod stock;
+mod stock_calls;
 
 pub use allocator::FrameAllocator;
 pub use fault::{AllocateFault, FreeFault};

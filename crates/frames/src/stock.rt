@@ -1,14 +1,10 @@
 // The 4,096 frames that an allocator has.
-ghost use Rattle.std.specs.Prelude.{◌≡◌, ◌+◌, ◌*◌, ◌%◌, ◌<◌, ◌≤◌, MatchResult};
-ghost use Rattle.frames.specs.Stock.{in_stock};
-ghost use Rattle.words.specs.Made.{Made};
-
-use words::BadNumber;
+ghost use Rattle.std.specs.Prelude.{◌≡◌, ◌%◌, ◌<◌, ◌≤◌};
 
 // The frames from the first one on.
 #[derive(Clone, Copy, PartialEq, Eq, Debug)]
 pub struct Stock {
-    first: u32,
+    pub(crate) first: u32,
     ghost low: { first ≤ 1048560 },
     ghost whole: { first % 16 ≡ 0 },
 }
@@ -18,45 +14,4 @@ pub struct Stock {
 pub struct Place {
     pub number: u16,
     ghost within: { number < 4096 },
-}
-
-impl Stock {
-    // The frames from 16 * group on.
-    pub fn of_group(group: u16) -> Stock
-        ensures { result.first ≡ 16 * group }
-    {
-        Stock {
-            first: u32::from(group) * 16,
-        }
-    }
-
-    // The place of a frame; none where the frame is not of the stock.
-    pub fn place(self, frame: u32) -> Option<Place>
-        ensures { Made result (in_stock self.first frame) (λ place. self.first + place.number ≡ frame) }
-    {
-        Place::try_from(frame.checked_sub(self.first)?).ok()
-    }
-
-    // The frame at a place.
-    pub fn frame(self, place: Place) -> u32
-        ensures { result ≡ self.first + place.number }
-    {
-        self.first + u32::from(place.number)
-    }
-}
-
-// There is no place of a number of 4,096 or more. Its own `try_from`, as pages and offsets have: their widths differ.
-impl TryFrom<u32> for Place {
-    type Error = BadNumber;
-
-    ghost try_from_gives = { λ n r. MatchResult r (λ place. place.number ≡ n) (λ _. 4096 ≤ n) };
-
-    fn try_from(number: u32) -> Result<Place, BadNumber> {
-        if number >= 4096 {
-            return Err(BadNumber);
-        }
-        Ok(Place {
-            number: number as u16,
-        })
-    }
 }

@@ -10,7 +10,7 @@ use Rattle.reservation.specs.declared.group.Usage.TheVariants.{Open, Broken}
 use Rattle.reservation.specs.declared.reservation.ReservationAllocator.{ReservationAllocator}
 use Rattle.reservation.specs.Groups.{block_use, nth_group}
 use Rattle.reservation.specs.Index.{in_bucket}
-use Rattle.reservation.specs.Reservation.{group_of, group_stock, group_out, NoGroup, NoneIn, OnlyFor}
+use Rattle.reservation.specs.Reservation.{group_of, group_at, offset_at, group_stock, group_out, NoGroup, NoneIn, OnlyFor}
 use Rattle.reservation.proofs.Members.{Tells}
 use Rattle.reservation.proofs.Usages.{both_for, not_listed, cases_map}
 
@@ -36,8 +36,8 @@ full_bit k l = eq-eqb _ 1 (let e = complement_bit 16 0 k (omega arith) l in let 
 
 pub none_left : (s : ReservationAllocator) → NoneIn s → (f : ℕ) → group_stock s f ≡ true → group_out s f ≡ true
 none_left s none f t =
-    let e = eqb-true _ 65535 (not-false _ (none ((f - s.stock.first) / 16))) in
-    and_from _ _ t (ap (λ w. bit w ((f - s.stock.first) % 16)) e ∙ full_bit ((f - s.stock.first) % 16) (omega arith))
+    let e = eqb-true _ 65535 (not-false _ (none (group_at s f))) in
+    and_from _ _ t (ap (λ w. bit w (offset_at s f)) e ∙ full_bit (offset_at s f) (omega arith))
 
 -- new groups
 abbrev pub open_group : Group

@@ -1,5 +1,5 @@
 -- Frames at their pages' offsets, and what the rules leave open.
-use Rattle.std.proofs.Common.{◌≡◌, ℕ, ◌-◌, ◌/◌, Bool, true, false, eqb, Ok, Err, sym, refl, ap, ◌∙◌, subst, ⊎_elim, arith}
+use Rattle.std.proofs.Common.{◌≡◌, ℕ, Bool, true, false, eqb, Ok, Err, sym, refl, ap, ◌∙◌, subst, ⊎_elim, arith}
 use Rattle.std.proofs.lemmas.Bool.{both_ways, eqb-true, ne_eqb, not-false, not_from_false, and_from, and_parts, ltb-true, cases_Bool, cases_eq, cases_order}
 use Rattle.words.specs.Layout.{bit, block_of, offset_of}
 use Rattle.reservation.specs.declared.group.Group.{Group}
@@ -9,7 +9,7 @@ use Rattle.reservation.specs.declared.reservation.ReservationAllocator.{Reservat
 use Rattle.reservation.specs.Ages.{place_of}
 use Rattle.reservation.specs.Groups.{is_open, is_broken, has_in, block_use, In}
 use Rattle.reservation.specs.Laws.{own_group, last_step, KeptAtOffset, OpenGroupGivesOffset, Determined}
-use Rattle.reservation.specs.Reservation.{group_of, NoGroup, NoSpare, Unplaced, Longest, Rule, UsedAs}
+use Rattle.reservation.specs.Reservation.{group_of, group_at, NoGroup, NoSpare, Unplaced, Longest, Rule, UsedAs}
 use Rattle.reservation.specs.Sets.{FirstFrom}
 use Rattle.reservation.proofs.Grouped.{full_bit}
 use Rattle.reservation.proofs.Stored.{frame_group}
@@ -40,7 +40,7 @@ reserving s p g BreaksOldest h k o none r = absurd (both_ways _ (r.0.reserves no
 pub open_group_gives_offset : OpenGroupGivesOffset
 open_group_gives_offset s u p g (Ok f) o none (c, chosen, taken) =
     let t = reserving s p g c.step c.spot.group c.spot.offset.number o none chosen.rule in
-    let e : (f - s.stock.first) / 16 ≡ c.spot.group = ap (λ x. (x - s.stock.first) / 16) taken.frame ∙ frame_group s c.spot.group c.spot.offset.number chosen.within.0 in (
+    let e : group_at s f ≡ c.spot.group = ap (group_at s) taken.frame ∙ frame_group s c.spot.group c.spot.offset.number chosen.within.0 in (
       f,
       refl,
       kept_at_offset s u p f c chosen taken (ap own_group t),

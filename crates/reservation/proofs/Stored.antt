@@ -1,11 +1,12 @@
 -- A group is written: what is kept of the groups beside them, and which frames are out.
-use Rattle.std.proofs.Common.{◌≡◌, ℕ, ◌-◌, ◌/◌, ◌%◌, ◌<◌, Bool, true, false, ◌&&◌, eqb, ltb, leb, ◌≢◌, List, length, set, MatchBool, Some, None, sym, refl, ap, ◌∙◌, subst, ap₂, ⊎_elim, arith}
+use Rattle.std.proofs.Common.{◌≡◌, ℕ, ◌-◌, ◌/◌, ◌%◌, ◌<◌, Bool, true, false, ◌&&◌, eqb, ◌≢◌, List, length, set, MatchBool, Some, None, sym, refl, ap, ◌∙◌, subst, ap₂, ⊎_elim, arith}
 use mathlib.Core.Path.{fun_ext}
 use Rattle.std.proofs.lemmas.List.{get_or-set_same, get_or-set_other}
 use Rattle.std.proofs.lemmas.Bool.{cases_eq, cases_Bool, both_ways, and_from, and_parts, and_left, and_right, ne_eqb, not_from_false, le-leb, lt-ltb, leb-true}
 use Rattle.std.specs.Bool.{then_some}
 use Rattle.words.specs.Layout.{bit, block_of}
-use Rattle.frames.specs.Stock.{in_stock}
+use Rattle.frames.specs.declared.stock.Stock.{Stock}
+use Rattle.frames.specs.Stock.{first_frame, in_stock}
 use Rattle.words.specs.Points.{at}
 use Rattle.reservation.specs.declared.age_order.AgeOrder.{AgeOrder}
 use Rattle.reservation.specs.declared.group.Choice.{Choice}
@@ -16,7 +17,7 @@ use Rattle.reservation.specs.declared.group.Usage.{Usage}
 use Rattle.reservation.specs.declared.reservation.ReservationAllocator.{ReservationAllocator}
 use Rattle.reservation.specs.Ages.{member, before, waits, put_last, taken_out, Joins, Stays, Updated}
 use Rattle.reservation.specs.Groups.{nth_group, open_use, reserved_use, same_block, is_open, is_reserved, has_in, waits_in, turn_of, OutAt, Returned}
-use Rattle.reservation.specs.Reservation.{group_of, older, frame_at, group_stock, group_out, Rule, UsedAs, OrderAfter, OnlyGroup, Chosen, Taken, CameIn}
+use Rattle.reservation.specs.Reservation.{group_of, older, frame_at, group_at, offset_at, group_stock, group_out, Rule, UsedAs, OrderAfter, OnlyGroup, Chosen, Taken, CameIn}
 use Rattle.reservation.proofs.Places.{at_here, at_there, at_each, and_true}
 use Rattle.reservation.proofs.Usages.{both_for, same_for, same_sym, broken_alone, block_reserved, broken_only, open_only, open_alone}
 use Rattle.reservation.proofs.WordSets.{bit_some}
@@ -139,45 +140,45 @@ order_after s u p Breaks g k x (r, n, e) f o = gone_unless s.order u.order g x o
 order_after s u p BreaksOldest g k x r f o = leaves s.order u.order g x o (broken_only x.usage f).0
 
 -- a frame by its group and offset
-pub frame_group : (s : ReservationAllocator) (g k : ℕ) → k < 16 → (frame_at s g k - s.stock.first) / 16 ≡ g
+pub frame_group : (s : ReservationAllocator) (g k : ℕ) → k < 16 → group_at s (frame_at s g k) ≡ g
 frame_group s g k l = omega arith
 
-pub frame_offset : (s : ReservationAllocator) (g k : ℕ) → k < 16 → (frame_at s g k - s.stock.first) % 16 ≡ k
+pub frame_offset : (s : ReservationAllocator) (g k : ℕ) → k < 16 → offset_at s (frame_at s g k) ≡ k
 frame_offset s g k l = omega arith
 
 pub frame_stock : (s : ReservationAllocator) (g k : ℕ) → g < 256 → k < 16 → group_stock s (frame_at s g k) ≡ true
-frame_stock s g k h l = and_from _ _ (le-leb s.stock.first (frame_at s g k) (omega arith)) (lt-ltb (frame_at s g k - s.stock.first) 4096 (omega arith))
+frame_stock s g k h l = and_from _ _ (le-leb (first_frame s.stock) (frame_at s g k) (omega arith)) (lt-ltb (frame_at s g k - first_frame s.stock) 4096 (omega arith))
 
 pub frame_out : (s : ReservationAllocator) (g k : ℕ) → g < 256 → k < 16 → group_out s (frame_at s g k) ≡ bit (group_of s g).out.bits k
 frame_out s g k h l =
-    ap (λ x. x && bit (group_of s ((frame_at s g k - s.stock.first) / 16)).out.bits ((frame_at s g k - s.stock.first) % 16)) (frame_stock s g k h l)
+    ap (λ x. x && bit (group_of s (group_at s (frame_at s g k))).out.bits (offset_at s (frame_at s g k))) (frame_stock s g k h l)
     ∙ ap₂ (λ x y. bit (group_of s x).out.bits y) (frame_group s g k l) (frame_offset s g k l)
 
--- whether a frame is out, where the first frame is n
-abbrev out_from : ReservationAllocator → ℕ → ℕ → Bool
-out_from u n q = (leb n q && ltb (q - n) 4096) && bit (group_of u ((q - n) / 16)).out.bits ((q - n) % 16)
+-- whether a frame of the stock x is out by the groups of u
+abbrev out_from : ReservationAllocator → Stock → ℕ → Bool
+out_from u x q = in_stock x q && bit (group_of u ((q - first_frame x) / 16)).out.bits ((q - first_frame x) % 16)
 
 -- just that frame went out, or came in
 pub out_changed : (s u : ReservationAllocator) (g k : ℕ) (b : Bool) → g < 256 → k < 16 → OnlyGroup s g u → OutAt (group_of s g) k b (group_of u g) → group_out u ≡ at (group_out s) (frame_at s g k) b
-out_changed s u g k b h l only out = fun_ext (λ q. ap (λ z. out_from u z.first q) only.stock ∙ ⊎_elim
-    (λ e. ap (out_from u s.stock.first) e
-    ∙ ap (λ x. x && bit (group_of u ((frame_at s g k - s.stock.first) / 16)).out.bits ((frame_at s g k - s.stock.first) % 16)) (frame_stock s g k h l)
+out_changed s u g k b h l only out = fun_ext (λ q. ap (λ z. out_from u z q) only.stock ∙ ⊎_elim
+    (λ e. ap (out_from u s.stock) e
+    ∙ ap (λ x. x && bit (group_of u (group_at s (frame_at s g k))).out.bits (offset_at s (frame_at s g k))) (frame_stock s g k h l)
     ∙ ap₂ (λ x y. bit (group_of u x).out.bits y) (frame_group s g k l) (frame_offset s g k l)
     ∙ ap (λ f. f k) out ∙ at_here (bit (group_of s g).out.bits) k b k refl
     ∙ sym (at_here (group_out s) (frame_at s g k) b q e))
     (λ ne. elsewhere q ne ∙ sym (at_there (group_out s) (frame_at s g k) b q ne))
     (cases_eq q (frame_at s g k)))
   where
-    elsewhere : (q : ℕ) → (q ≡ frame_at s g k → ⊥) → out_from u s.stock.first q ≡ group_out s q
+    elsewhere : (q : ℕ) → (q ≡ frame_at s g k → ⊥) → out_from u s.stock q ≡ group_out s q
     elsewhere q ne = ⊎_elim
         (λ t. ap (λ x. group_stock s q && x)
         (⊎_elim
-        (λ i. let a = leb-true s.stock.first q (and_parts _ _ t).0 in
-        let other : (q - s.stock.first) % 16 ≡ k → ⊥ = λ j. ne (omega arith) in
-        ap (λ x. bit (group_of u x).out.bits ((q - s.stock.first) % 16)) i ∙ ap (λ f. f ((q - s.stock.first) % 16)) out
-        ∙ at_there (bit (group_of s g).out.bits) k b ((q - s.stock.first) % 16) other ∙ ap (λ x. bit (group_of s x).out.bits ((q - s.stock.first) % 16)) (sym i))
-        (λ i. ap (λ x. bit x.out.bits ((q - s.stock.first) % 16)) (only.others ((q - s.stock.first) / 16) i))
-        (cases_eq ((q - s.stock.first) / 16) g)))
+        (λ i. let a = leb-true (first_frame s.stock) q (and_parts _ _ t).0 in
+        let other : offset_at s q ≡ k → ⊥ = λ j. ne (omega arith) in
+        ap (λ x. bit (group_of u x).out.bits (offset_at s q)) i ∙ ap (λ f. f (offset_at s q)) out
+        ∙ at_there (bit (group_of s g).out.bits) k b (offset_at s q) other ∙ ap (λ x. bit (group_of s x).out.bits (offset_at s q)) (sym i))
+        (λ i. ap (λ x. bit x.out.bits (offset_at s q)) (only.others (group_at s q) i))
+        (cases_eq (group_at s q) g)))
         (λ f. and_left (group_stock s q) _ f ∙ sym (and_left (group_stock s q) _ f))
         (cases_Bool (group_stock s q))
 
@@ -189,7 +190,7 @@ pub written : (s u : ReservationAllocator) (g : ℕ) (x : Group) → group_of u 
 written s u g x stored = ap (λ f. f g) stored ∙ at_here (group_of s) g x g refl
 
 pub same_stock : (s u : ReservationAllocator) → u.stock ≡ s.stock → group_stock u ≡ group_stock s
-same_stock s u e = ap (λ z. in_stock z.first) e
+same_stock s u e = ap in_stock e
 
 pub took : (s u : ReservationAllocator) (p : ℕ) (c : Choice) (f : ℕ) (old x : Group) → Chosen s p c → old ≡ group_of s c.spot.group → OutAt old c.spot.offset.number true x → UsedAs p c.step x.usage →
     u.stock ≡ s.stock → group_of u ≡ at (group_of s) c.spot.group x → Updated s.order c.spot.group (turn_of x) u.order → f ≡ frame_at s c.spot.group c.spot.offset.number → Taken s p c f u

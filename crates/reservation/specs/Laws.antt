@@ -1,5 +1,5 @@
 -- What the steps come to: frames at their pages' offsets.
-use Rattle.std.specs.Prelude.{◌≡◌, ℕ, ◌-◌, ◌/◌, ◌%◌, Bool, true, false, Ok, Result}
+use Rattle.std.specs.Prelude.{◌≡◌, ℕ, ◌%◌, Bool, true, false, Ok, Result}
 use Rattle.words.specs.Layout.{block_of, offset_of}
 use Rattle.frames.specs.declared.fault.AllocateFault.{AllocateFault}
 use Rattle.reservation.specs.declared.group.Choice.{Choice}
@@ -7,7 +7,7 @@ use Rattle.reservation.specs.declared.group.Step.{Step}
 use Rattle.reservation.specs.declared.group.Step.TheVariants.{Kept, Reserves, Spare, Breaks, BreaksOldest}
 use Rattle.reservation.specs.declared.reservation.ReservationAllocator.{ReservationAllocator}
 use Rattle.reservation.specs.Groups.{is_open, block_use}
-use Rattle.reservation.specs.Reservation.{reservation, group_of, NoGroup, Chosen, Taken}
+use Rattle.reservation.specs.Reservation.{reservation, group_of, group_at, NoGroup, Chosen, Taken}
 
 -- the first two steps
 abbrev pub own_group : Step → Bool
@@ -31,7 +31,7 @@ KeptAtOffset = (s u : ReservationAllocator) (p f : ℕ) (c : Choice) → Chosen 
 -- while a group is open, a page whose block has no group gets a frame, at its offset, of a group that is then reserved for its block
 abbrev pub OpenGroupGivesOffset : Type 0
 OpenGroupGivesOffset = (s u : ReservationAllocator) (p g : ℕ) (r : Result ℕ AllocateFault) → is_open (group_of s g) ≡ true → NoGroup s (block_of p) → reservation.allocated s p r u →
-    (f : ℕ) × (r ≡ Ok f) × (f % 16 ≡ offset_of p) × (block_use (block_of p) (group_of u ((f - s.stock.first) / 16)).usage ≡ true)
+    (f : ℕ) × (r ≡ Ok f) × (f % 16 ≡ offset_of p) × (block_use (block_of p) (group_of u (group_at s f)).usage ≡ true)
 
 -- the rules leave open only what is free: two choices for a page go by one step, in the first two they are one frame, and in the last one group
 pub record Agree (c d : Choice) : Type 0 where

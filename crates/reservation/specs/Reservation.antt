@@ -2,7 +2,7 @@
 use Rattle.std.specs.Prelude.{◌≡◌, ℕ, ◌+◌, ◌-◌, ◌*◌, ◌/◌, ◌%◌, Bool, true, false, ◌&&◌, MatchBool, MatchResult, ◌≢◌, nat_lt}
 use Rattle.words.specs.Layout.{bit, block_of, offset_of}
 use Rattle.frames.specs.Meaning.{FramesMeaning}
-use Rattle.frames.specs.Stock.{in_stock}
+use Rattle.frames.specs.Stock.{first_frame, in_stock}
 use Rattle.reservation.specs.declared.group.Choice.{Choice}
 use Rattle.reservation.specs.declared.group.Group.{Group}
 use Rattle.reservation.specs.declared.group.Step.{Step}
@@ -22,13 +22,20 @@ older s = before s.order
 
 -- the frame at the offset k of the group g
 abbrev pub frame_at : ReservationAllocator → ℕ → ℕ → ℕ
-frame_at s g k = s.stock.first + (16 * g + k)
+frame_at s g k = first_frame s.stock + (16 * g + k)
+
+-- which group has the frame f, and at which offset
+abbrev pub group_at : ReservationAllocator → ℕ → ℕ
+group_at s f = (f - first_frame s.stock) / 16
+
+abbrev pub offset_at : ReservationAllocator → ℕ → ℕ
+offset_at s f = (f - first_frame s.stock) % 16
 
 abbrev pub group_stock : ReservationAllocator → ℕ → Bool
-group_stock s = in_stock s.stock.first
+group_stock s = in_stock s.stock
 
 abbrev pub group_out : ReservationAllocator → ℕ → Bool
-group_out s f = group_stock s f && bit (group_of s ((f - s.stock.first) / 16)).out.bits ((f - s.stock.first) % 16)
+group_out s f = group_stock s f && bit (group_of s (group_at s f)).out.bits (offset_at s f)
 
 -- no group is reserved for the block; none is open; none is broken and has a frame in; none has a frame in
 abbrev pub NoGroup : ReservationAllocator → ℕ → Type 0
@@ -112,11 +119,11 @@ reservation = record {
   stock = group_stock;
   out = group_out;
   allocated = λ s p r u. MatchResult r (λ f. (c : Choice) × Chosen s p c × Taken s p c f u) (λ e. NoneIn s × (u ≡ s));
-  freed = λ s f r u. MatchResult r (λ x. CameIn s ((f - s.stock.first) / 16) ((f - s.stock.first) % 16) u) (λ e. u ≡ s);
+  freed = λ s f r u. MatchResult r (λ x. CameIn s (group_at s f) (offset_at s f) u) (λ e. u ≡ s);
 }
 
 -- a new allocator has the frames from 16 * g on, and every group is open
 pub record NewReservation (g : ℕ) (u : ReservationAllocator) : Type 0 where
-  pub first : u.stock.first ≡ 16 * g
+  pub first : first_frame u.stock ≡ 16 * g
   pub vacant : (h : ℕ) → is_open (group_of u h) ≡ nat_lt h 256
   pub none : (f : ℕ) → group_out u f ≡ false

@@ -1,4 +1,5 @@
 use Rattle.std.proofs.Common.{◌≡◌, true, sym, ap, ◌∙◌, subst, arith}
+use Rattle.frames.specs.Stock.{first_frame}
 use Rattle.reservation.specs.Reservation.{group_of, group_stock, group_out, frame_at, UsedAs}
 use Rattle.words.specs.Points.{at}
 use Rattle.reservation.proofs.Grouped.{group_read}
@@ -22,7 +23,7 @@ returns c =
     let d = c.args.choice in
     let k = d.spot.offset.number in
     let stock = c.store.ensures.stock in
-    let frame : c.frame.result ≡ frame_at s d.spot.group k = omega (arith, c.frame.ensures, c.from-2.ensures, ap (λ z. z.first) stock) in
+    let frame : c.frame.result ≡ frame_at s d.spot.group k = omega (arith, c.frame.ensures, c.from-2.ensures, ap (first_frame) stock) in
     let was = group_read s c.from.result _ (omega arith) ∙ ap (group_of s) c.from.ensures in
     let used = subst (UsedAs c.args.page.number d.step) (sym c.taken.ensures.usage) c.usage-usage.ensures in
     let taken = took s u c.args.page.number d _ _ c.taken.result c.requires was c.taken.ensures.out used stock c.store.ensures.stored c.store.ensures.order frame in
