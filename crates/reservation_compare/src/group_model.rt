@@ -1,0 +1,224 @@
+// Reservation by its rules alone: each step looks through all the groups.
+ghost use Rattle.std.specs.Prelude.{◌<◌};
+
+use crate::calls::FIRST_FRAME;
+use crate::event::Event;
+use crate::fault::Fault;
+use crate::model::FrameModel;
+use std::alloc::{AllocError, Global};
+
+#[derive(Clone, Copy, PartialEq, Eq, Debug)]
+enum Use {
+    Open,
+    // Turns rise, so the group with the least was reserved longest ago.
+    Reserved { block: u64, turn: u64 },
+    Broken,
+}
+
+#[derive(Clone, Copy)]
+struct GroupState {
+    used: Use,
+    out: [bool; 16],
+}
+
+impl GroupState {
+    fn has_in(&self) -> bool {
+        self.out.contains(&false)
+    }
+
+    // Whether any page may have a frame.
+    fn is_spare(&self) -> bool {
+        self.used == Use::Broken && self.has_in()
+    }
+
+    fn is_reserved_for(&self, own: u64) -> bool {
+        matches!(self.used, Use::Reserved { block, .. } if block == own)
+    }
+
+    // The turn of a reserved group that has a frame to give.
+    fn turn(&self) -> Option<u64> {
+        match self.used {
+            Use::Reserved { turn, .. } if self.has_in() => Some(turn),
+            _ => None,
+        }
+    }
+}
+
+// Where a frame is.
+#[derive(Clone, Copy, PartialEq, Eq, Debug)]
+struct Place {
+    group: usize,
+    offset: usize,
+    ghost within: { offset < 16 },
+}
+
+impl Place {
+    // Frames below the stock have none; those past it are in groups that there are not.
+    fn of_frame(frame: u32) -> Option<Place> {
+        let number = frame.checked_sub(FIRST_FRAME)? as usize;
+        Some(Place {
+            group: number / 16,
+            offset: number % 16,
+        })
+    }
+}
+
+// The first step that has a frame, with what it leaves no choice of: the frame's place, or the group.
+#[derive(Clone, Copy)]
+enum Step {
+    Kept(Place),
+    Reserves(Place),
+    Spare,
+    Breaks,
+    BreaksOldest(usize),
+}
+
+#[derive(Drop)]
+pub struct GroupModel {
+    groups: Vec<GroupState>,
+    turns: u64,
+}
+
+impl GroupModel {
+    pub fn new(heap: Global) -> Result<GroupModel, AllocError> {
+        let open = GroupState {
+            used: Use::Open,
+            out: [false; 16],
+        };
+        Ok(GroupModel {
+            groups: vec![in heap; open; 256]?,
+            turns: 0,
+        })
+    }
+
+    // The first step that has a frame for the page.
+    fn step(&self, page: u64) -> Option<Step> {
+        let offset = (page % 16) as usize;
+        if let Some(group) = self.reserved_group(page / 16) {
+            let place = Place { group, offset };
+            if self.is_in(place) {
+                return Some(Step::Kept(place));
+            }
+        } else if let Some(group) = self.open_group() {
+            return Some(Step::Reserves(Place { group, offset }));
+        }
+        self.any_step()
+    }
+
+    // The first step that gives any page a frame.
+    fn any_step(&self) -> Option<Step> {
+        if self.groups.iter().any(|group| group.is_spare()) {
+            return Some(Step::Spare);
+        }
+        if self.open_group().is_some() {
+            return Some(Step::Breaks);
+        }
+        Some(Step::BreaksOldest(self.oldest_group()?))
+    }
+
+    fn reserved_group(&self, own: u64) -> Option<usize> {
+        self.groups
+            .iter()
+            .position(|group| group.is_reserved_for(own))
+    }
+
+    fn open_group(&self) -> Option<usize> {
+        self.groups.iter().position(|group| group.used == Use::Open)
+    }
+
+    // The group reserved longest ago that has a frame in.
+    fn oldest_group(&self) -> Option<usize> {
+        let mut oldest = None;
+        for (number, group) in self.groups.iter().enumerate() {
+            if let Some(turn) = group.turn() {
+                let older = match oldest {
+                    Some((least, _)) => turn < least,
+                    None => true,
+                };
+                if older {
+                    oldest = Some((turn, number));
+                }
+            }
+        }
+        Some(oldest?.1)
+    }
+
+    fn is_in(&self, place: Place) -> bool {
+        self.groups
+            .get(place.group)
+            .is_some_and(|group| !group.out[place.offset])
+    }
+
+    // Whether the step may take the frame at the place.
+    fn allows(&self, step: Step, place: Place) -> bool {
+        let Some(group) = self.groups.get(place.group) else {
+            return false;
+        };
+        !group.out[place.offset]
+            && match step {
+                Step::Kept(only) | Step::Reserves(only) => place == only,
+                Step::Spare => group.used == Use::Broken,
+                Step::Breaks => group.used == Use::Open,
+                Step::BreaksOldest(oldest) => place.group == oldest,
+            }
+    }
+
+    // Takes the frame by the step.
+    fn follow(&mut self, step: Step, block: u64, place: Place) -> Event {
+        let turn = self.turns;
+        if let Some(group) = self.groups.get_mut(place.group) {
+            group.out[place.offset] = true;
+            group.used = match step {
+                Step::Kept(_) => group.used,
+                Step::Reserves(_) => Use::Reserved { block, turn },
+                Step::Spare | Step::Breaks | Step::BreaksOldest(_) => Use::Broken,
+            };
+        }
+        self.turns = turn.saturating_add(1);
+        Event::from(step)
+    }
+}
+
+impl From<Step> for Event {
+    fn from(step: Step) -> Event {
+        match step {
+            Step::Kept(_) => Event::Kept,
+            Step::Reserves(_) => Event::Reserved,
+            Step::Spare => Event::Spare,
+            Step::Breaks => Event::Broke,
+            Step::BreaksOldest(_) => Event::BrokeOldest,
+        }
+    }
+}
+
+impl FrameModel for GroupModel {
+    fn allocate(&mut self, page: u64, answer: Option<u32>) -> Result<Event, Fault> {
+        let (step, frame) = match (self.step(page), answer) {
+            (Some(step), Some(frame)) => (step, frame),
+            (None, None) => return Ok(Event::AllOut),
+            _ => return Err(Fault::Differs),
+        };
+        let place = Place::of_frame(frame).ok_or(Fault::Differs)?;
+        if !self.allows(step, place) {
+            return Err(Fault::Differs);
+        }
+        Ok(self.follow(step, page / 16, place))
+    }
+
+    fn free(&mut self, frame: u32) -> Result<Event, Fault> {
+        let Some(place) = Place::of_frame(frame) else {
+            return Ok(Event::NotOut);
+        };
+        let Some(group) = self.groups.get_mut(place.group) else {
+            return Ok(Event::NotOut);
+        };
+        if !group.out[place.offset] {
+            return Ok(Event::NotOut);
+        }
+        group.out[place.offset] = false;
+        if !group.out.contains(&true) {
+            group.used = Use::Open;
+        }
+        Ok(Event::Freed)
+    }
+}

@@ -1,0 +1,66 @@
+// Compares each frame allocator with a plain model of it on pseudo-random calls.
+#![tactic(auto)]
+
+mod calls;
+mod compare;
+mod event;
+mod fault;
+mod group_model;
+mod list_model;
+mod model;
+
+use anyhow::anyhow;
+use calls::FIRST_GROUP;
+use compare::compare;
+use event::{EVENTS, Event};
+use fault::Stop;
+use frames::FreeListAllocator;
+use group_model::GroupModel;
+use list_model::ListModel;
+use reservation::ReservationAllocator;
+
+fn main(rt: HostRuntime) -> anyhow::Result<()> {
+    run(&rt)
+}
+
+fn run(rt: &HostRuntime) -> anyhow::Result<()> {
+    let heap = rt.alloc();
+    report(
+        rt,
+        "free list",
+        compare(
+            heap,
+            FreeListAllocator::new(FIRST_GROUP),
+            ListModel::new(heap)?,
+        ),
+    )?;
+    report(
+        rt,
+        "reservation",
+        compare(
+            heap,
+            ReservationAllocator::new(FIRST_GROUP),
+            GroupModel::new(heap)?,
+        ),
+    )
+}
+
+fn report(rt: &HostRuntime, name: &str, outcome: Result<Vec<Event>, Stop>) -> anyhow::Result<()> {
+    match outcome {
+        Ok(events) => {
+            print!(rt; "{name}: {} calls", events.len())?;
+            for kind in EVENTS {
+                let count = events.iter().filter(|event| **event == kind).count();
+                if count > 0 {
+                    print!(rt; ", {count} {kind}")?;
+                }
+            }
+            println!(rt; ", agree")?;
+            Ok(())
+        }
+        Err(stop) => {
+            println!(rt; "{name}: {stop}")?;
+            Err(anyhow!("the comparison stopped"))
+        }
+    }
+}
