@@ -7,9 +7,10 @@ use Rattle.std.proofs.lemmas.Bool.{cases_eq, cases_lt, and_parts, and_right, eqb
 use Rattle.arrayvec.specs.ArrayVec.{array_vec_len}
 use Rattle.words.specs.Points.{at}
 use Rattle.reservation.specs.declared.age_order.AgeOrder.{AgeOrder}
-use Rattle.reservation.specs.Ages.{place_in, member, before, waits, place_of, taken, Gap, put_last, taken_out, SameOrder}
-use Rattle.reservation.specs.Sets.{has}
-use Rattle.reservation.proofs.Places.{Placed, order_of, waits_of, at_here, at_there, unchanged, retell, refit, refit_order, refit_waits, appended, appended_order, appended_waits, gone, gone_order, gone_waits, marked, marked_waits, moved, moved_order, moved_waits, count, count_none, moved_gap, moved_count, passed_gap}
+use Rattle.reservation.specs.declared.bit_set.BitSet.{BitSet}
+use Rattle.reservation.specs.Ages.{place_in, member, before, waits, place_of, taken, Gap, put_last, taken_out, Oldest, SameOrder, Joins, Leaves}
+use Rattle.reservation.specs.Sets.{has, FirstFrom}
+use Rattle.reservation.proofs.Places.{Placed, order_of, waits_of, at_here, at_there, unchanged, retell, refit, refit_order, refit_waits, appended, appended_order, appended_waits, gone, gone_order, gone_waits, marked, marked_waits, moved, moved_order, moved_waits, count, count_none, moved_gap, moved_count, passed_gap, oldest_first}
 
 -- what is at each place of a list
 abbrev pub item_at : List ℕ → ℕ → ℕ
@@ -94,6 +95,14 @@ joined s g w ps W xs new l p q x =
       ap₂ (λ m f. waits_of m W f) M F ∙ ap (λ v. waits_of (at (member s) g true) v (at (place_of s) g n)) q ∙ appended_waits _ _ _ _ _ (placed_in s) g w new,
     )
 
+-- the order in which the group g has joined
+pub joins_at : (s u : AgeOrder) (g h n m : ℕ) (w : Bool) → member s g ≡ false → u.places ≡ set s.places h (Some n) → has u.waiting ≡ at (has s.waiting) m w → u.groups.items ≡ s.groups.items ++ g ∷ [] →
+    h ≡ g → n ≡ array_vec_len s.groups → m ≡ array_vec_len s.groups → g < length s.places → Joins s g w u
+joins_at s u g h n m w new ps W xs own len long l =
+    let (p, within, order, waiting) = joined s g w u.places (has u.waiting) u.groups.items new l
+    (ps ∙ ap₂ (λ x y. set s.places x (Some y)) own len) (W ∙ ap (λ x. at (has s.waiting) x w) long) xs in
+    record { within = within; order = order; waiting = waiting }
+
 -- the group g, whose place is p, leaves
 pub left : (s : AgeOrder) (g p : ℕ) (ps : List (Option ℕ)) (W : ℕ → Bool) → place_in s g ≡ Some p → ps ≡ set s.places g None → W ≡ at (has s.waiting) p false →
     Placed (there ps) W (where_is ps) (item_at s.groups.items) (array_vec_len s.groups) × (there ps ≡ at (member s) g false)
@@ -114,6 +123,29 @@ left s g p ps W e r q =
       ap₂ order_of M F ∙ refit_order _ (has s.waiting) _ _ alike ∙ gone_order (member s) (place_of s) g,
       ap₂ (λ m f. waits_of m W f) M F ∙ refit_waits _ W _ _ alike ∙ ap (λ v. waits_of (at (member s) g false) v (place_of s)) V ∙ gone_waits _ _ _ _ _ (placed_in s) g here,
     )
+
+-- the order that the group g has left, or was not in
+pub leaves_at : (s u : AgeOrder) (g h k p q : ℕ) → place_in s h ≡ Some p → u.places ≡ set s.places k None → has u.waiting ≡ at (has s.waiting) q false → h ≡ g → k ≡ g → q ≡ p → Leaves s g u
+leaves_at s u g h k p q here ps W own at_own long =
+    let (P, within, order, waiting) = left s g p u.places (has u.waiting) (ap (place_in s) (sym own) ∙ here)
+    (ps ∙ ap (λ x. set s.places x None) at_own) (W ∙ ap (λ x. at (has s.waiting) x false) long) in
+    record { within = within; order = order; waiting = waiting }
+
+pub not_there : (s : AgeOrder) (g h : ℕ) → place_in s h ≡ None → h ≡ g → Leaves s g s
+not_there s g h gone own =
+    let no : member s g ≡ false = ap (member s) (sym own) ∙ ap is_some gone in
+    let same = unchanged (member s) g false no in
+    record {
+      within = same;
+      order = ap (λ m. order_of m (place_of s)) same ∙ gone_order (member s) (place_of s) g;
+      waiting = unchanged (waits s) g false (ap (λ x. x && has s.waiting (place_of s g)) no);
+    }
+
+-- the first group that waits
+pub oldest_at : (s : AgeOrder) (xs : List ℕ) (p : ℕ) → FirstFrom (has s.waiting) 0 p → xs ≡ s.groups.items → Oldest s (item_at xs p)
+oldest_at s xs p f e =
+    let (here, first) = oldest_first _ _ _ _ _ (placed_in s) p (item_at xs p) f.here (λ q l. f.before q (omega arith) l) (ap (λ ys. item_at ys p) e) in
+    record { here = here; first = first }
 
 -- whether the group g waits is written at its place
 pub marked_at : (s : AgeOrder) (g p : ℕ) (w : Bool) (W : ℕ → Bool) → place_in s g ≡ Some p → W ≡ at (has s.waiting) p w →
@@ -143,6 +175,18 @@ moved_down s p t ps W xs here down gap low r q x =
       ap₂ order_of M F ∙ moved_order _ _ _ _ _ (placed_in s) g p t m e down gap,
       ap₂ (λ f h. waits_of f W h) M F ∙ ap (λ v. waits_of (member s) v (at (place_of s) g t)) q ∙ moved_waits _ _ _ _ _ (placed_in s) g p t m e down gap,
     )
+
+-- the order in which the group at the place p has moved down to the place t
+pub same_moved : (s u : AgeOrder) (p t g : ℕ) (xs : List ℕ) (W : BitSet 8) (w : Bool) → u.places ≡ set s.places g (Some t) → has u.waiting ≡ at (has W) t w → has W ≡ at (has s.waiting) p false →
+    w ≡ has s.waiting p → g ≡ item_at xs p → xs ≡ s.groups.items → taken s p ≡ true → t ≤ p → Gap s t p → SameOrder s u
+same_moved s u p t g xs W w ps V W_is same own list here down gap =
+    let few = s.few in
+    let (m, e) = at_place s p here in
+    let (l, h) = (placed_in s).placed (item_at s.groups.items p) m in
+    let (P, within, order, waiting) = moved_down s p t u.places (has u.waiting) (set s.groups.items t (item_at s.groups.items p)) here down gap (omega arith)
+    (ps ∙ ap (λ x. set s.places x (Some t)) (own ∙ ap (λ ys. item_at ys p) list))
+    (V ∙ ap (at (has W) t) same ∙ ap (λ f. at f t (has s.waiting p)) W_is) refl in
+    record { within = within; order = order; waiting = waiting }
 
 -- the order a while it is compacted: s is what it has become, its groups at places below p have moved down to those below t
 pub record Compacting (a s : AgeOrder) (t p : ℕ) : Type 0 where

@@ -1,18 +1,24 @@
 -- The groups of a reservation allocator: new ones, what the search for a block's group has found, and when nothing is in.
-use Rattle.std.proofs.Common.{◌≡◌, ℕ, Bool, Option, MatchOption, ◌-◌, ◌/◌, ◌%◌, ◌^◌, ◌<◌, ◌≤◌, true, false, ◌&&◌, ltb, leb, get_or, replicate, sym, ap, ◌∙◌, subst, ⊎_elim, arith}
+use Rattle.std.proofs.Common.{◌≡◌, ℕ, Bool, Option, IfSome, MatchOption, ◌-◌, ◌*◌, ◌/◌, ◌%◌, ◌^◌, ◌<◌, ◌≤◌, true, false, not, ◌&&◌, ltb, leb, get_or, replicate, sym, ap, ◌∙◌, subst, ⊎_elim, arith}
 use native.Mathlib.Nat.{zero-div}
 use Rattle.std.proofs.lemmas.List.{get_or_default, get_or_past, get_or-replicate, length-replicate}
-use Rattle.std.proofs.lemmas.Bool.{cases_lt, eq-eqb, eqb-true, not-false, and_from, and_left, and_right, and_parts, ltb-true, cases_Bool}
-use Rattle.words.specs.Layout.{bit, bucket_of}
+use Rattle.std.proofs.lemmas.Bool.{cases_lt, eq-eqb, eqb-true, both_ways, not-false, not-true, and_from, and_left, and_right, and_parts, ltb-true, lt-ltb, le-ltb, cases_Bool}
+use Rattle.std.specs.Bool.{then_some}
+use Rattle.words.specs.Layout.{bit, bucket_of, block_of, offset_of}
 use Rattle.words.proofs.Flip.{complement_bit, no_bit}
+use Rattle.frames.specs.Stock.{first_frame}
+use Rattle.reservation.specs.declared.group.Choice.{Choice}
 use Rattle.reservation.specs.declared.group.Group.{Group}
+use Rattle.reservation.specs.declared.group.Step.TheVariants.{Kept}
 use Rattle.reservation.specs.declared.group.Usage.TheVariants.{Open, Broken}
 use Rattle.reservation.specs.declared.reservation.ReservationAllocator.{ReservationAllocator}
-use Rattle.reservation.specs.Groups.{block_use, nth_group}
+use Rattle.reservation.specs.Ages.{waits, Oldest}
+use Rattle.reservation.specs.Groups.{block_use, nth_group, is_open, is_broken, has_in, waits_in}
 use Rattle.reservation.specs.Index.{in_bucket}
-use Rattle.reservation.specs.Reservation.{group_of, group_at, offset_at, group_stock, group_out, NoGroup, NoneIn, OnlyFor}
+use Rattle.reservation.specs.Reservation.{NewReservation, group_of, group_at, offset_at, group_stock, group_out, NoGroup, NoOpen, LowestOpen, NoSpare, NoneIn, OnlyFor, Longest, Unplaced, Rule, Chosen}
+use Rattle.reservation.specs.Sets.{has, FirstFrom, NoneFrom}
 use Rattle.reservation.proofs.Members.{Tells}
-use Rattle.reservation.proofs.Usages.{both_for, not_listed, cases_map}
+use Rattle.reservation.proofs.Usages.{both_for, not_listed, cases_map, cases_found, by_test}
 
 -- a group that is read
 pub group_read : (s : ReservationAllocator) (g : ℕ) (d : Group) → g < 256 → get_or s.groups g d ≡ group_of s g
@@ -55,3 +61,51 @@ new_in n f = ⊎_elim
     and_right _ _ (fresh (λ k x. k < 256 → bit x.out.bits ((f - n) % 16) ≡ false) (λ k a b. no_bit ((f - n) % 16)) (λ k a b. absurd (omega arith)) ((f - n) / 16) (omega arith)))
     (λ e. and_left _ _ e)
     (cases_Bool (leb n f && ltb (f - n) 4096))
+
+-- an allocator of new groups
+pub new_groups : (n : ℕ) (u : ReservationAllocator) → u.groups ≡ replicate 256 open_group → first_frame u.stock ≡ 16 * n → NewReservation n u
+new_groups n u e first = record {
+  first = first;
+  vacant = subst (λ gs. (h : ℕ) → is_open (nth_group gs h) ≡ ltb h 256) (sym e) (fresh (λ k x. is_open x ≡ ltb k 256) (λ k l. sym (lt-ltb k 256 l)) (λ k l. sym (le-ltb k 256 l)));
+  none = λ f. subst (λ gs. (group_stock u f && bit (nth_group gs (group_at u f)).out.bits (offset_at u f)) ≡ false) (sym e) (new_in (first_frame u.stock) f);
+}
+
+-- the lowest of the broken groups with a frame in, as the set has it
+pub spare_found : (s : ReservationAllocator) (o : Option ℕ) → MatchOption o (NoneFrom (has s.spare_groups) 0) (λ g. FirstFrom (has s.spare_groups) 0 g) →
+    MatchOption o (NoSpare s) (λ g. (is_broken (group_of s g) ≡ true) × (has_in (group_of s g) ≡ true))
+spare_found s o h = cases_map o _ _ _ _ h (λ none g. sym (s.spares g) ∙ none g (omega arith)) (λ g f. and_parts _ _ (sym (s.spares g) ∙ f.here))
+
+-- the lowest open group, as the set has it
+pub open_found : (s : ReservationAllocator) (o : Option ℕ) → MatchOption o (NoneFrom (has s.open_groups) 0) (λ g. FirstFrom (has s.open_groups) 0 g) →
+    MatchOption o (NoOpen s) (λ g. LowestOpen s g)
+open_found s o h = cases_map o _ _ _ _ h (λ none g. sym (s.opens g) ∙ none g (omega arith))
+    (λ g f. record { here = sym (s.opens g) ∙ f.here; lower = λ k l. sym (s.opens k) ∙ f.before k (omega arith) l })
+
+-- all of its frames are in
+pub open_whole : (s : ReservationAllocator) (o : Option ℕ) → MatchOption o (NoneFrom (has s.open_groups) 0) (λ g. FirstFrom (has s.open_groups) 0 g) → IfSome o (λ g. (group_of s g).out.bits ≡ 0)
+open_whole s o h = cases_found o _ _ _ h (λ g f. eqb-true _ 0 (sym (s.used g) ∙ sym (s.opens g) ∙ f.here))
+
+-- the group reserved longest ago that has a frame in, as the order has it
+pub oldest_found : (s : ReservationAllocator) (o : Option ℕ) → MatchOption o ((g : ℕ) → waits s.order g ≡ false) (λ g. Oldest s.order g) →
+    MatchOption o ((g : ℕ) → waits_in (group_of s g) ≡ false) (λ g. Longest s g) × IfSome o (λ g. has_in (group_of s g) ≡ true)
+oldest_found s o h = (
+  cases_map o _ _ _ _ h (λ none g. sym (s.waiting g) ∙ none g) (λ g f. record { here = sym (s.waiting g) ∙ f.here; first = λ k w ne. f.first k (s.waiting k ∙ w) ne }),
+  cases_found o _ _ _ h (λ g f. (and_parts _ _ (sym (s.waiting g) ∙ f.here)).1),
+)
+
+-- the group of a page's block gives the frame at the page's offset, or has it out
+pub kept_chosen : (s : ReservationAllocator) (p b g : ℕ) (out : Bool) (c : Choice) (o : Option Choice) → o ≡ then_some (not out) c → OnlyFor s b g → b ≡ block_of p →
+    c.step ≡ Kept → c.spot.group ≡ g → c.spot.offset.number ≡ offset_of p → out ≡ bit (group_of s g).out.bits c.spot.offset.number →
+    MatchOption o (Unplaced s p) (λ x. Chosen s p x)
+kept_chosen s p b g out c o given only own step group offset read =
+    let here : block_use (block_of p) (group_of s g).usage ≡ true = ap (λ x. block_use x (group_of s g).usage) (sym own) ∙ only.here in
+    by_test o (not out) c (Unplaced s p) (Chosen s p) given
+    (λ is_out. record {
+      kept = λ h used. ap (λ x. bit (group_of s x).out.bits (offset_of p)) (only.only h (ap (λ x. block_use x (group_of s h).usage) own ∙ used))
+          ∙ ap (bit (group_of s g).out.bits) (sym offset) ∙ sym read ∙ not-false out is_out;
+      reserves = λ none. absurd (both_ways _ (none g) here);
+    })
+    (λ is_in. record {
+      rule = subst (λ x. Rule s p x c.spot.group c.spot.offset.number) (sym step) (ap (λ x. block_use (block_of p) (group_of s x).usage) group ∙ here, offset);
+      within = (c.spot.offset.within, ap (λ x. bit (group_of s x).out.bits c.spot.offset.number) group ∙ sym read ∙ not-true out is_in);
+    })

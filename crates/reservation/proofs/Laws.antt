@@ -1,5 +1,5 @@
 -- Frames at their pages' offsets, and what the rules leave open.
-use Rattle.std.proofs.Common.{◌≡◌, ℕ, Bool, true, false, eqb, Ok, Err, sym, refl, ap, ◌∙◌, subst, ⊎_elim, arith}
+use Rattle.std.proofs.Common.{◌≡◌, ℕ, true, false, eqb, Ok, Err, sym, refl, ap, ◌∙◌, subst, ⊎_elim, arith}
 use Rattle.std.proofs.lemmas.Bool.{both_ways, eqb-true, ne_eqb, not-false, not_from_false, and_from, and_parts, ltb-true, cases_Bool, cases_eq, cases_order}
 use Rattle.words.specs.Layout.{bit, block_of, offset_of}
 use Rattle.reservation.specs.declared.group.Group.{Group}
@@ -9,8 +9,7 @@ use Rattle.reservation.specs.declared.reservation.ReservationAllocator.{Reservat
 use Rattle.reservation.specs.Ages.{place_of}
 use Rattle.reservation.specs.Groups.{is_open, is_broken, has_in, block_use, In}
 use Rattle.reservation.specs.Laws.{own_group, last_step, KeptAtOffset, OpenGroupGivesOffset, Determined}
-use Rattle.reservation.specs.Reservation.{group_of, group_at, NoGroup, NoSpare, Unplaced, Longest, Rule, UsedAs}
-use Rattle.reservation.specs.Sets.{FirstFrom}
+use Rattle.reservation.specs.Reservation.{group_of, group_at, NoGroup, LowestOpen, NoSpare, Unplaced, Longest, Rule, UsedAs}
 use Rattle.reservation.proofs.Grouped.{full_bit}
 use Rattle.reservation.proofs.Stored.{frame_group}
 use Rattle.reservation.proofs.Usages.{both_for}
@@ -51,13 +50,13 @@ open_group_gives_offset s u p g (Err e) o none (all, same) = absurd (
     let l = eqb-true (group_of s g).out.bits 65535 (not-false _ (all g)) in
     omega arith)
 
--- two first numbers by one test are one
-first_once : (f : ℕ → Bool) (a j k : ℕ) → FirstFrom f a j → FirstFrom f a k → j ≡ k
-first_once f a j k x y = ⊎_elim (λ e. e)
+-- the lowest open group is one
+lowest_once : (s : ReservationAllocator) (g h : ℕ) → LowestOpen s g → LowestOpen s h → g ≡ h
+lowest_once s g h x y = ⊎_elim (λ e. e)
     (⊎_elim
-    (λ l. absurd (both_ways _ (y.before j x.from l) x.here))
-    (λ l. absurd (both_ways _ (x.before k y.from l) y.here)))
-    (cases_order j k)
+    (λ l. absurd (both_ways _ (y.lower g l) x.here))
+    (λ l. absurd (both_ways _ (x.lower h l) y.here)))
+    (cases_order g h)
 
 -- a frame that is in shows that its group has one
 in_has : (x : Group) (k : ℕ) → In x k → has_in x ≡ true
@@ -93,7 +92,7 @@ unplaced s p BreaksOldest g k o r = r.0
 -- two steps of their own groups, and two others
 own_once : (s : ReservationAllocator) (p : ℕ) (t v : Step) (g h j k : ℕ) → own_group t ≡ true → own_group v ≡ true → Rule s p t g j → Rule s p v h k → (t ≡ v) × (g ≡ h) × (j ≡ k)
 own_once s p Kept Kept g h j k a b (r, e) (x, d) = (refl, s.single g h (both_for (group_of s g).usage (group_of s h).usage (block_of p) r x), e ∙ sym d)
-own_once s p Reserves Reserves g h j k a b (none, f, e) (all, i, d) = (refl, first_once _ 0 g h f i, e ∙ sym d)
+own_once s p Reserves Reserves g h j k a b (none, f, e) (all, i, d) = (refl, lowest_once s g h f i, e ∙ sym d)
 own_once s p Kept Reserves g h j k a b (r, e) (none, i, d) = absurd (both_ways _ (none g) r)
 own_once s p Reserves Kept g h j k a b (none, f, e) (x, d) = absurd (both_ways _ (none h) x)
 own_once s p Spare v g h j k a b r x = absurd (both_ways false refl a)

@@ -3,8 +3,9 @@ use Rattle.std.proofs.Common.{◌≡◌, ℕ, zero, suc, ◌+◌, ◌<◌, ◌�
 use Rattle.std.specs.List.{find}
 use Rattle.std.proofs.lemmas.Bool.{cases_eq, cases_lt, cases_Bool, both_ways, cond-true, cond-false}
 use Rattle.words.specs.Points.{at}
+use Rattle.reservation.specs.declared.bit_set.BitSet.{BitSet}
 use Rattle.reservation.specs.Index.{passing}
-use Rattle.reservation.specs.Sets.{FirstFrom, NoneFrom}
+use Rattle.reservation.specs.Sets.{has, FirstFrom, NoneFrom}
 use Rattle.reservation.proofs.Places.{at_here, at_there}
 use Rattle.reservation.proofs.Usages.{cases_map}
 
@@ -60,3 +61,8 @@ found f t a (suc n) m e =
     (cases_Bool (t a))))
     (λ y. subst (λ xs. Tells f t a m (find t xs)) (sym (cond-false _ _ _ y)) (later f t a m _ (λ x. absurd (both_ways _ y x)) i))
     (cases_Bool (f a))
+
+-- the members that are left when the first is taken out
+pub next_left : (s t : BitSet 4) (g k : ℕ) → has t ≡ at (has s) k false → k ≡ g → FirstFrom (has s) 0 g → g < 256 → passing (has s) 0 256 ≡ g ∷ passing (has t) 0 256
+next_left s t g k rest same first l =
+    passing_first (has s) 0 256 g first (omega arith) ∙ ap (λ f. g ∷ passing f 0 256) (ap (λ j. at (has s) j false) (sym same) ∙ sym rest)

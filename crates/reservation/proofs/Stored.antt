@@ -1,5 +1,5 @@
 -- A group is written: what is kept of the groups beside them, and which frames are out.
-use Rattle.std.proofs.Common.{◌≡◌, ℕ, ◌-◌, ◌/◌, ◌%◌, ◌<◌, Bool, true, false, ◌&&◌, eqb, ◌≢◌, List, length, set, MatchBool, Some, None, sym, refl, ap, ◌∙◌, subst, ap₂, ⊎_elim, arith}
+use Rattle.std.proofs.Common.{◌≡◌, ℕ, ◌+◌, ◌-◌, ◌*◌, ◌/◌, ◌%◌, ◌<◌, Bool, true, false, ◌&&◌, eqb, ◌≢◌, List, length, set, MatchBool, Some, None, sym, refl, ap, ◌∙◌, subst, ap₂, ⊎_elim, arith}
 use mathlib.Core.Path.{fun_ext}
 use Rattle.std.proofs.lemmas.List.{get_or-set_same, get_or-set_other}
 use Rattle.std.proofs.lemmas.Bool.{cases_eq, cases_Bool, both_ways, and_from, and_parts, and_left, and_right, ne_eqb, not_from_false, le-leb, lt-ltb, leb-true}
@@ -236,3 +236,10 @@ module _ (s : ReservationAllocator) (g k : ℕ) (old x : Group) (was : old ≡ g
         returned = subst (λ y. Returned (group_of s g) k y) e (subst (λ y. Returned y k x) was back);
         order = subst (λ y. MatchBool (is_open y) (older u ≡ taken_out (older s) g) (older u ≡ older s)) e (back_order u order);
       }
+
+-- the frame that came in, by its group and offset
+pub freed_at : (s u : ReservationAllocator) (f g k n : ℕ) → CameIn s g k u → n ≡ 16 * g + k → first_frame s.stock + n ≡ f → k < 16 → CameIn s (group_at s f) (offset_at s f) u
+freed_at s u f g k n came place here l =
+    let e : g ≡ group_at s f = omega arith in
+    let d : k ≡ offset_at s f = omega arith in
+    subst (λ x. CameIn s (group_at s f) x u) d (subst (λ x. CameIn s x k u) e came)

@@ -1,5 +1,5 @@
 -- What a group is used for, and what that tells of it.
-use Rattle.std.proofs.Common.{◌≡◌, ℕ, Bool, true, false, ◌&&◌, IfSome, Some, None, Option, Result, Ok, Err, sym, refl, ap, ◌∙◌, subst, arith, MatchOption}
+use Rattle.std.proofs.Common.{◌≡◌, ℕ, Bool, true, false, ◌&&◌, IfSome, Some, None, Option, Result, Ok, Err, sym, refl, ap, ◌∙◌, subst, MatchOption}
 use Rattle.std.specs.Bool.{then_some}
 use Rattle.std.specs.Result.{result_ok}
 use Rattle.std.proofs.lemmas.Bool.{both_ways, eqb-true, eqb-false, eq-eqb, ne_eqb}
@@ -7,7 +7,6 @@ use Rattle.words.specs.Layout.{bucket_of}
 use Rattle.reservation.specs.declared.group.Usage.{Usage}
 use Rattle.reservation.specs.declared.group.Usage.TheVariants.{Open, Reserved, Broken}
 use Rattle.reservation.specs.Groups.{open_use, reserved_use, broken_use, block_use, bucket_use, same_block}
-use Rattle.reservation.specs.Sets.{FirstFrom}
 
 -- two groups that are reserved for one block
 pub both_for : (u v : Usage) (n : ℕ) → block_use n u ≡ true → block_use n v ≡ true → same_block u v ≡ true
@@ -65,14 +64,6 @@ pub open_only : (u : Usage) → open_use u ≡ true → reserved_use u ≡ false
 open_only Open a = refl
 open_only (Reserved x) a = absurd (both_ways false refl a)
 open_only Broken a = absurd (both_ways false refl a)
-
--- the first number by one test is the first by an equal one
-pub first_alike : (f h : ℕ → Bool) (a b k : ℕ) → ((j : ℕ) → f j ≡ h j) → FirstFrom f a k → a ≡ b → FirstFrom h b k
-first_alike f h a b k e r s = record {
-  from = let l = r.from in omega arith;
-  here = sym (e k) ∙ r.here;
-  before = λ j x y. sym (e j) ∙ r.before j (omega arith) y;
-}
 
 pub cases_map : {X : Type 0} (o : Option X) (A A' : Type 0) (B B' : X → Type 0) → MatchOption o A B → (A → A') → ((x : X) → B x → B' x) → MatchOption o A' B'
 cases_map None A A' B B' c f g = f c

@@ -1,5 +1,5 @@
 -- What the reservation allocator means, by its groups and the order in which they were reserved.
-use Rattle.std.specs.Prelude.{◌≡◌, ℕ, ◌+◌, ◌-◌, ◌*◌, ◌/◌, ◌%◌, Bool, true, false, ◌&&◌, MatchBool, MatchResult, ◌≢◌, nat_lt}
+use Rattle.std.specs.Prelude.{◌≡◌, ℕ, ◌+◌, ◌-◌, ◌*◌, ◌/◌, ◌%◌, ◌<◌, Bool, true, false, ◌&&◌, MatchBool, MatchResult, ◌≢◌, nat_lt}
 use Rattle.words.specs.Layout.{bit, block_of, offset_of}
 use Rattle.frames.specs.Meaning.{FramesMeaning}
 use Rattle.frames.specs.Stock.{first_frame, in_stock}
@@ -11,7 +11,6 @@ use Rattle.reservation.specs.declared.group.Usage.{Usage}
 use Rattle.reservation.specs.declared.reservation.ReservationAllocator.{ReservationAllocator}
 use Rattle.reservation.specs.Ages.{before, put_last, taken_out}
 use Rattle.reservation.specs.Groups.{nth_group, is_open, is_reserved, is_broken, is_spare, waits_in, has_in, broken_use, block_use, In, OutAt, Returned}
-use Rattle.reservation.specs.Sets.{FirstFrom}
 
 abbrev pub group_of : ReservationAllocator → ℕ → Group
 group_of s g = nth_group s.groups g
@@ -49,6 +48,11 @@ pub record OnlyFor (s : ReservationAllocator) (b g : ℕ) : Type 0 where
 abbrev pub NoOpen : ReservationAllocator → Type 0
 NoOpen s = (g : ℕ) → is_open (group_of s g) ≡ false
 
+-- the group g is open, and no lower one is
+pub record LowestOpen (s : ReservationAllocator) (g : ℕ) : Type 0 where
+  pub here : is_open (group_of s g) ≡ true
+  pub lower : (h : ℕ) → h < g → is_open (group_of s h) ≡ false
+
 abbrev pub NoSpare : ReservationAllocator → Type 0
 NoSpare s = (g : ℕ) → is_spare (group_of s g) ≡ false
 
@@ -69,7 +73,7 @@ pub record Longest (s : ReservationAllocator) (g : ℕ) : Type 0 where
 -- group in Spare and Breaks
 abbrev pub Rule : ReservationAllocator → ℕ → Step → ℕ → ℕ → Type 0
 Rule s p Kept g k = (block_use (block_of p) (group_of s g).usage ≡ true) × (k ≡ offset_of p)
-Rule s p Reserves g k = NoGroup s (block_of p) × FirstFrom (λ h. is_open (group_of s h)) 0 g × (k ≡ offset_of p)
+Rule s p Reserves g k = NoGroup s (block_of p) × LowestOpen s g × (k ≡ offset_of p)
 Rule s p Spare g k = Unplaced s p × (is_broken (group_of s g) ≡ true)
 Rule s p Breaks g k = Unplaced s p × NoSpare s × (is_open (group_of s g) ≡ true)
 Rule s p BreaksOldest g k = Unplaced s p × NoSpare s × NoOpen s × Longest s g

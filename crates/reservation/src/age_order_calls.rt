@@ -35,6 +35,7 @@ impl AgeOrder {
     }
 
     // The first group that waits.
+    #[tactic(auto, using(crate::proofs::Ages::oldest_at))]
     pub(crate) fn oldest(&self) -> Option<u8>
         ensures { MatchOption result ((g : ℕ) → waits self.now g ≡ false) (λ g. Oldest self.now g) }
     {

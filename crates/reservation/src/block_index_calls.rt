@@ -64,6 +64,7 @@ impl Iterator for Groups {
 
     ghost remaining = { item_count groups_left };
 
+    #[tactic(auto, using(crate::proofs::Members::passing_none, crate::proofs::Members::next_left))]
     fn next(&mut self) -> Option<u8> {
         let group = lowest(&self.left)?;
         self.left.put(usize::from(group), false);

@@ -1,9 +1,8 @@
 // Which frame a page gets.
 ghost use Rattle.std.specs.Prelude.{◌≡◌, ℕ, true, false, IfSome, MatchOption};
 ghost use Rattle.words.specs.Layout.{bit};
-ghost use Rattle.reservation.specs.Groups.{is_open, is_broken, waits_in, has_in, block_use, In};
-ghost use Rattle.reservation.specs.Reservation.{group_of, NoGroup, NoOpen, NoSpare, NoneIn, OnlyFor, Longest, Unplaced, Chosen};
-ghost use Rattle.reservation.specs.Sets.{FirstFrom};
+ghost use Rattle.reservation.specs.Groups.{is_broken, waits_in, has_in, block_use, In};
+ghost use Rattle.reservation.specs.Reservation.{group_of, NoGroup, NoOpen, LowestOpen, NoSpare, NoneIn, OnlyFor, Longest, Unplaced, Chosen};
 
 use crate::block_index_calls::lowest;
 use crate::group::{Choice, Step};
@@ -26,6 +25,7 @@ impl ReservationAllocator {
     }
 
     // The frame at the page's offset, in the group that is reserved for its block or that can be.
+    #[tactic(auto, using(crate::proofs::Grouped::kept_chosen))]
     fn choose_placed(&self, page: Page) -> Option<Choice>
         ensures { MatchOption result (Unplaced self.now page.number) (λ c. Chosen self.now page.number c) }
     {
@@ -72,14 +72,16 @@ impl ReservationAllocator {
         self.groups[usize::from(group)].is_reserved_for(block)
     }
 
+    #[tactic(auto, using(crate::proofs::Grouped::open_found, crate::proofs::Grouped::open_whole))]
     fn lowest_open(&self) -> Option<u8>
-        ensures first { MatchOption result (NoOpen self.now) (λ g. FirstFrom (λ h. is_open (group_of self.now h)) 0 g) }
+        ensures first { MatchOption result (NoOpen self.now) (λ g. LowestOpen self.now g) }
         ensures whole { IfSome result (λ g. (group_of self.now g).out.bits ≡ 0) }
     {
         lowest(&self.open_groups)
     }
 
     // A broken group with a frame in.
+    #[tactic(auto, using(crate::proofs::Grouped::spare_found))]
     fn lowest_spare(&self) -> Option<u8>
         ensures { MatchOption result (NoSpare self.now) (λ g. (is_broken (group_of self.now g) ≡ true) × (has_in (group_of self.now g) ≡ true)) }
     {
@@ -87,6 +89,7 @@ impl ReservationAllocator {
     }
 
     // The group reserved longest ago that has a frame in.
+    #[tactic(auto, using(crate::proofs::Grouped::oldest_found))]
     fn oldest(&self) -> Option<u8>
         ensures first { MatchOption result ((g : ℕ) → waits_in (group_of self.now g) ≡ false) (λ g. Longest self.now g) }
         ensures some { IfSome result (λ g. has_in (group_of self.now g) ≡ true) }

@@ -1,9 +1,6 @@
-use Rattle.std.proofs.Common.{◌≡◌, false, ◌&&◌, Some, None, set, lit<, sym, ap, ◌∙◌, arith}
-use Rattle.std.specs.Option.{is_some}
+use Rattle.std.proofs.Common.{None, set, lit<, arith, rules}
 use Rattle.reservation.specs.Sets.{has}
-use Rattle.reservation.specs.Ages.{place_in, member, waits, place_of}
-use Rattle.reservation.proofs.Ages.{left, all_placed, all_waits}
-use Rattle.reservation.proofs.Places.{gone_order, unchanged, order_of}
+use Rattle.reservation.proofs.Ages.{left, leaves_at, not_there, all_placed, all_waits}
 use Rattle.reservation.proofs.age_order.AgeOrder.leave.Goals as goal
 
 pub put-requires : goal.put-requires
@@ -20,20 +17,7 @@ invariant_of-self c =
     record { few = s.few; placed = all_placed _ _ _ _ p; waits = all_waits _ _ _ _ p }
 
 pub returns-in-Some : goal.returns-in-Some
-returns-in-Some c =
-    let s = c.args.self.now in
-    let e : place_in s c.args.group ≡ Some c.in-Some.place = ap (place_in s) (sym c.from.ensures) ∙ c.in-Some.is in
-    let (p, within, order, waiting) = left s c.args.group c.in-Some.place (set s.places c.from-in-Some.result None) (has c.put.new.self) e (cc) (cc) in
-    record { within = within; order = order; waiting = waiting }
+returns-in-Some c = search (rules, leaves_at)
 
 pub returns-in_default : goal.returns-in_default
-returns-in_default c =
-    let s = c.args.self.now in
-    let g = c.args.group in
-    let no : member s g ≡ false = ap (member s) (sym c.from.ensures) ∙ ap is_some c.in_default.is in
-    let same = unchanged (member s) g false no in
-    record {
-      within = same;
-      order = ap (λ m. order_of m (place_of s)) same ∙ gone_order (member s) (place_of s) g;
-      waiting = unchanged (waits s) g false (ap (λ x. x && has s.waiting (place_of s g)) no);
-    }
+returns-in_default c = search (rules, not_there)
