@@ -7,3 +7,4 @@ pub mod Grouped
 pub mod Stored
 pub mod Laws
 pub mod Members
+pub mod Written
