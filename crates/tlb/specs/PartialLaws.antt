@@ -10,9 +10,9 @@ use Rattle.words.specs.declared.form.Form.TheVariants as form
 use Rattle.words.specs.declared.word.Word.{Word}
 use Rattle.words.specs.declared.word.Word.TheVariants.{Compact, Full}
 use Rattle.words.specs.Layout.{bit, block_of, offset_of, offsets_in}
-use Rattle.words.specs.Reading.{form_number, is_word, answer_of, said, reading}
+use Rattle.words.specs.Reading.{form_number, answer_of, said, reading}
 use Rattle.words.specs.Words.{form_of, bits_of}
-use Rattle.words.proofs.Blocks.{sound_reading}
+use Rattle.words.proofs.Blocks.{value_reading}
 use Rattle.tlb.specs.declared.entry.Entry.{Entry}
 use Rattle.tlb.specs.declared.partial_slot.PartialSlot.{PartialSlot}
 use Rattle.tlb.specs.declared.partial_slot.PartialSlot.TheVariants.{Subblock, Single}
@@ -30,12 +30,8 @@ ok_answer : (x : Option Translation) → result_ok (answer_of x) ≡ x
 ok_answer None = refl
 ok_answer (Some t) = refl
 
-sound : (w : Word) → is_word (form_of w) (bits_of w) ≡ true
-sound (Compact c) = c.sound
-sound (Full f) = f.sound
-
 says_said : (w : Word) (p q : ℕ) → says w p q ≡ cond (reaches (form_of w) p q) (said (form_of w) (bits_of w) (offset_of q)) None
-says_said w p q = ap (λ x. cond (reaches (form_of w) p q) x None) (ap result_ok (sound_reading (form_of w) (bits_of w) (offset_of q) (sound w) (omega arith)) ∙ ok_answer (said (form_of w) (bits_of w) (offset_of q)))
+says_said w p q = ap (λ x. cond (reaches (form_of w) p q) x None) (ap result_ok (value_reading w (offset_of q) (omega arith)) ∙ ok_answer (said (form_of w) (bits_of w) (offset_of q)))
 
 -- what an entry says of a page is among the pages that it clears
 said_named : (w : Word) (p q : ℕ) (t : Translation) → says w p q ≡ Some t → names (block_of p) (word_offsets (form_of w) p (bits_of w)) q ≡ true

@@ -6,8 +6,11 @@ use Rattle.std.proofs.lemmas.Bool.{cases_lt, eq-eqb, ne_eqb, lt-ltb, le-leb, and
 use Rattle.words.specs.declared.translation.Translation.{Translation}
 use Rattle.words.specs.declared.form.Form.{Form}
 use Rattle.words.specs.declared.form.Form.TheVariants as form
+use Rattle.words.specs.declared.word.Word.{Word}
+use Rattle.words.specs.declared.word.Word.TheVariants.{Compact, Full}
 use Rattle.words.specs.Layout.{bit, block_of, offset_of, page_at, compact_word, full_word, offsets_in, frame_block_in, attributes_in, frame_in, is_compact, is_full}
 use Rattle.words.specs.Reading.{form_number, is_word, translation, said, answer_of, reading}
+use Rattle.words.specs.Words.{form_of, bits_of}
 use Rattle.words.specs.Blocks.{Mapping, Used, Placed, mapped_offsets, BlockWord, page_word}
 use Rattle.words.proofs.Flip.{bit_le}
 use Rattle.words.proofs.Translations.{translation_is}
@@ -83,9 +86,14 @@ module _ (f a : ℕ) (h : f < 2 ^ 28) (j : a < 2 ^ 12) where
       or_right (eqb (full_word f a) 0) _ (eq-eqb _ _ (omega arith))
 
 -- reading what is a word of its form
-pub sound_reading : (g : Form) (w o : ℕ) → is_word g w ≡ true → o < 16 → reading (form_number g) w o ≡ answer_of (said g w o)
+sound_reading : (g : Form) (w o : ℕ) → is_word g w ≡ true → o < 16 → reading (form_number g) w o ≡ answer_of (said g w o)
 sound_reading form.Compact w o s h = cond-true (is_compact w && leb o 15) _ _ (and_from (is_compact w) _ s (le-leb o 15 (omega arith)))
 sound_reading form.Full w o s h = cond-true (is_full w && leb o 15) _ _ (and_from (is_full w) _ s (le-leb o 15 (omega arith)))
+
+-- reading a value of the word types
+pub value_reading : (v : Word) (o : ℕ) → o < 16 → reading (form_number (form_of v)) (bits_of v) o ≡ answer_of (said (form_of v) (bits_of v) o)
+value_reading (Compact c) o h = sound_reading form.Compact c.bits o c.sound h
+value_reading (Full f) o h = sound_reading form.Full f.bits o f.sound h
 
 pub full_says : (x : Option Translation) (o : ℕ) → said form.Full (page_word x) o ≡ x
 full_says None o = refl

@@ -12,7 +12,7 @@ use Rattle.words.specs.Reading.{form_number, is_word, said, answer_of, reading, 
 use Rattle.words.specs.Words.{form_of, bits_of}
 use Rattle.words.specs.Blocks.{Mapping, Used, Placed, mapped_offsets, StandsFor}
 use Rattle.words.specs.Laws.{Tells, Accepts, IsValue, AcceptedAreValues, OneWord, SameWordSamePages}
-use Rattle.words.proofs.Blocks.{sound_reading, full_reading, compact_reading}
+use Rattle.words.proofs.Blocks.{value_reading, full_reading, compact_reading}
 
 own_page : (p : ℕ) → page_at (block_of p) (offset_of p) ≡ p
 own_page p = omega arith
@@ -37,12 +37,8 @@ same_answer None None e = refl
 same_answer (Some t) None e = absurd (let z : ◌≡◌ {A = ℕ} 0 1 = cc in omega arith)
 same_answer None (Some u) e = absurd (let z : ◌≡◌ {A = ℕ} 0 1 = cc in omega arith)
 
-value_accepted : (g : Form) (w : ℕ) → is_word g w ≡ true → Accepts (form_number g) w
-value_accepted g w s o h e = never_bad (said g w o) (sym (sound_reading g w o s h) ∙ e)
-
 values : (v : Word) → Accepts (form_number (form_of v)) (bits_of v)
-values (CompactValue c) = value_accepted form.Compact c.bits c.sound
-values (FullValue f) = value_accepted form.Full f.bits f.sound
+values v o h e = never_bad (said (form_of v) (bits_of v) o) (sym (value_reading v o h) ∙ e)
 
 -- what is no word of its form is refused
 unsound : (g : Form) (w : ℕ) → is_word g w ≡ false → reading (form_number g) w 0 ≡ Err BadWord
