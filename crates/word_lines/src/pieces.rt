@@ -41,9 +41,11 @@ pub struct Pieces<'a> {
 }
 
 impl<'a> Pieces<'a> {
+    ghost use Rattle.word_lines.specs.Walk.{text_left, separator_of};
+
     pub fn new(text: &'a [u8], separator: Separator) -> Pieces<'a>
-        ensures whole { result.rest.now ≡ text.now }
-        ensures by { result.separator ≡ separator }
+        ensures whole { text_left result ≡ text.now }
+        ensures by { separator_of result ≡ separator }
     {
         Pieces {
             rest: text,
@@ -53,13 +55,13 @@ impl<'a> Pieces<'a> {
 }
 
 impl<'a> Iterator for Pieces<'a> {
-    ghost use Rattle.word_lines.specs.Walk.{pieces_left};
+    ghost use Rattle.word_lines.specs.Walk.{pieces_left, text_left};
 
     type Item = &'a [u8];
 
     ghost next_gives = { YieldsFirstRef pieces_left };
 
-    ghost remaining = { λ s. at_most (length s.rest.now) };
+    ghost remaining = { λ s. at_most (length (text_left s)) };
 
     fn next(&mut self) -> Option<&'a [u8]> {
         if self.rest.is_empty() {
@@ -94,13 +96,13 @@ impl<'a> Fields<'a> {
 }
 
 impl<'a> Iterator for Fields<'a> {
-    ghost use Rattle.word_lines.specs.Walk.{fields_left};
+    ghost use Rattle.word_lines.specs.Walk.{fields_left, line_left};
 
     type Item = &'a [u8];
 
     ghost next_gives = { YieldsFirstRef fields_left };
 
-    ghost remaining = { λ s. at_most (length s.pieces.rest.now) };
+    ghost remaining = { λ s. at_most (length (line_left s)) };
 
     fn next(&mut self) -> Option<&'a [u8]> {
         self.pieces.find(|piece| !piece.is_empty())
