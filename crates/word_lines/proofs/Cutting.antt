@@ -21,11 +21,10 @@ first : (s : Separator) (b : ℕ) (bs : List ℕ) → pieces s (b ∷ bs) ≡ ta
 first s b [] = ends_or_goes_on s b [] refl
 first s b (x ∷ bs) = ends_or_goes_on s b (x ∷ bs) (ap (begun b) (first s x bs))
 
--- what is left after the first piece and its separator
-pub next_piece : (s : Separator) (xs piece after rest : List ℕ) → 0 < length xs → piece ≡ take (before s xs) xs → after ≡ drop (before s xs) xs → rest ≡ drop 1 after
-    → pieces s xs ≡ piece ∷ pieces s rest
-next_piece s [] piece after rest h p a r = absurd (omega arith)
-next_piece s (b ∷ bs) piece after rest h p a r =
+-- the first piece, and what is left after it and its separator
+pub next_piece : (s : Separator) (xs : List ℕ) → 0 < length xs → pieces s xs ≡ take (before s xs) xs ∷ pieces s (drop 1 (drop (before s xs) xs))
+next_piece s [] h = absurd (omega arith)
+next_piece s (b ∷ bs) h =
     let n = before s (b ∷ bs) in
-    let d : drop (suc n) (b ∷ bs) ≡ rest = ap (λ k. drop k (b ∷ bs)) (sym (add-one n)) ∙ sym (drop-drop 1 n (b ∷ bs)) ∙ ap (drop 1) (sym a) ∙ sym r in
-    first s b bs ∙ ap (λ t. t ∷ pieces s (drop (suc n) (b ∷ bs))) (sym p) ∙ ap (λ t. piece ∷ pieces s t) d
+    let d : drop (suc n) (b ∷ bs) ≡ drop 1 (drop n (b ∷ bs)) = ap (λ k. drop k (b ∷ bs)) (sym (add-one n)) ∙ sym (drop-drop 1 n (b ∷ bs)) in
+    first s b bs ∙ ap (λ t. take n (b ∷ bs) ∷ pieces s t) d

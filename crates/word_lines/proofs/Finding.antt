@@ -1,24 +1,16 @@
 -- What `position` and `find` come to, over bytes and over pieces.
-use Rattle.std.proofs.Common.{◌≡◌, ℕ, suc, Bool, true, false, not, ltb, eqb, List, [], ◌∷◌, length, Some, None, Option, MatchOption, IfSome, filter, unwrap_or, sym, refl, ap, ◌∙◌, subst, ⊎_elim, arith}
+use Rattle.std.proofs.Common.{◌≡◌, ℕ, suc, ◌≤◌, Bool, true, false, not, eqb, List, [], ◌∷◌, length, Some, None, Option, MatchOption, IfSome, filter, sym, refl, ap, ◌∙◌, subst, arith}
 use Rattle.std.specs.Borrow.{Bor}
 use Rattle.std.specs.Fn.{CalledAt}
 use Rattle.std.specs.Iterator.{Yields, YieldsFirstRef}
-use Rattle.std.specs.List.{prefix_len, position, FoldsTo}
-use Rattle.std.proofs.lemmas.Bool.{cases_Bool, ne_eqb, cond-true, cond-false, ltb-false}
+use Rattle.std.specs.List.{prefix_len, FoldsTo}
+use Rattle.std.proofs.lemmas.Bool.{ne_eqb}
 use Rattle.std.proofs.lemmas.List.Sums.{prefix_len-le-length}
 use denote.Param.Members.{Mut}
 use Rattle.word_lines.specs.Pieces.{has_bytes}
 
--- the first place that passes, or the length
-pub place_or_all : (p : ℕ → Bool) (xs : List ℕ) (r : Option ℕ) (n : ℕ) → r ≡ position p xs → n ≡ unwrap_or r (length xs) → n ≡ prefix_len (λ b. not (p b)) xs
-place_or_all p xs r n e u =
-    let m = prefix_len (λ b. not (p b)) xs in
-    let l = prefix_len-le-length (λ b. not (p b)) xs in
-    u ∙ ap (λ o. unwrap_or o (length xs)) e
-    ∙ ⊎_elim
-    (λ h. ap (λ o. unwrap_or o (length xs)) (cond-true (ltb m (length xs)) (Some m) None h))
-    (λ h. ap (λ o. unwrap_or o (length xs)) (cond-false (ltb m (length xs)) (Some m) None h) ∙ (let k = ltb-false m (length xs) h in omega arith))
-    (cases_Bool (ltb m (length xs)))
+pub prefix_within : (p : ℕ → Bool) (xs : List ℕ) → prefix_len p xs ≤ length xs
+prefix_within p xs = prefix_len-le-length p xs
 
 pub some_bytes : (xs : List ℕ) → has_bytes xs ≡ not (eqb (length xs) 0)
 some_bytes [] = refl

@@ -1,7 +1,7 @@
 // The lines of a text, and the fields of a line: pieces of bytes between separators.
-ghost use Rattle.std.specs.Prelude.{◌≡◌, not, length};
+ghost use Rattle.std.specs.Prelude.{◌≡◌, ◌≤◌, not, length, drop};
 ghost use Rattle.std.specs.Iterator.{at_most, YieldsFirstRef};
-ghost use Rattle.std.specs.List.{prefix_len};
+ghost use Rattle.std.specs.List.{position, prefix_len};
 ghost use Rattle.word_lines.specs.Pieces.{separates};
 
 // What ends a piece: a line feed ends a line, a blank a field. Two names are plainer than a closure, which would be a type parameter of
@@ -22,14 +22,30 @@ impl Separator {
         }
     }
 
-    // How many bytes stand before the first separator.
-    fn piece_len(self, bytes: &[u8]) -> usize
-        ensures { result ≡ prefix_len (λ b. not (separates self b)) bytes.now }
+    // The place of the first separator.
+    fn place(self, bytes: &[u8]) -> Option<usize>
+        ensures { result ≡ position (separates self) bytes.now }
     {
-        bytes
-            .iter()
-            .position(|byte| self.separates(*byte))
-            .unwrap_or(bytes.len())
+        bytes.iter().position(|byte| self.separates(*byte))
+    }
+
+    // How many bytes stand before the first separator.
+    #[tactic(auto, using(crate::proofs::Finding::prefix_within))]
+    fn piece_len(self, bytes: &[u8]) -> usize
+        ensures before { result ≡ prefix_len (λ b. not (separates self b)) bytes.now }
+        ensures within { result ≤ length bytes.now }
+    {
+        self.place(bytes).unwrap_or(bytes.len())
+    }
+}
+
+// The bytes after the first, where there is one.
+fn after_first(bytes: &[u8]) -> &[u8]
+    ensures { result.now ≡ drop 1 bytes.now }
+{
+    match bytes {
+        [] => bytes,
+        [_, rest @ ..] => rest,
     }
 }
 
@@ -63,15 +79,13 @@ impl<'a> Iterator for Pieces<'a> {
 
     ghost remaining = { λ s. at_most (length (text_left s)) };
 
+    #[tactic(auto, using(crate::proofs::Cutting::next_piece))]
     fn next(&mut self) -> Option<&'a [u8]> {
         if self.rest.is_empty() {
             return None;
         }
         let (piece, after) = self.rest.split_at(self.separator.piece_len(self.rest));
-        self.rest = match after {
-            [] => after,
-            [_, rest @ ..] => rest,
-        };
+        self.rest = after_first(after);
         Some(piece)
     }
 }
