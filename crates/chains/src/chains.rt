@@ -98,6 +98,7 @@ impl Chains {
     }
 
     // Writes what is held of the block, on a new node where it has none.
+    #[tactic(auto, using(crate::proofs::Held::count_all, crate::proofs::Changes::all_linked))]
     pub fn insert(&mut self, block: Block, body: Body) -> Result<(), NoNode>
         ensures { MatchResult result
             (λ x. Puts self.old block.number (Some body) self.new)
