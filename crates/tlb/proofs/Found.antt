@@ -49,13 +49,13 @@ module _ {S : Type 0} (held : S → ℕ → Option Translation) where
 
   -- the first pair of a page is a pair, and there is none where none is found
   first_answers : (xs : List S) (p : ℕ) → Answers (Holds held) xs p (first_held held xs p) xs
-  first_answers [] p = λ (t, h). h
+  first_answers [] p = λ t h. h
   first_answers (x ∷ xs) p = each (held x p) (first_held held xs p) refl (first_answers xs p)
     where
       each : (o r : Option Translation) → held x p ≡ o → Answers (Holds held) xs p r xs → Answers (Holds held) (x ∷ xs) p (cond (is_some o) o r) (x ∷ xs)
       each (Some t) r e h = (inl e, inl e)
       each None (Some t) e h = (inr h.0, inr h.1)
-      each None None e h = λ (t, g). ⊎_elim (λ a. cc) (λ a. h (t, a)) g
+      each None None e h = λ t g. ⊎_elim (λ a. cc) (h t) g
 
   pub answers : (xs : List S) (p : ℕ) (r : Option Translation) → r ≡ first_held held xs p → Answers (Holds held) xs p r xs
   answers xs p r e = subst (λ o. Answers (Holds held) xs p o xs) (sym e) (first_answers xs p)

@@ -12,7 +12,7 @@ use Rattle.tlb.specs.declared.entry.Entry.{Entry}
 use Rattle.tlb.specs.declared.two_level.TwoLevelTlb.{TwoLevelTlb}
 use Rattle.tlb.specs.Choices.{kept}
 use Rattle.tlb.specs.Entries.{reaches, entry_says}
-use Rattle.tlb.specs.Meaning.{Same, SameMeaning, TlbMeaning, HasPair, Within, Loads, Takes}
+use Rattle.tlb.specs.Meaning.{Same, SameMeaning, TlbMeaning, Within, Loads, Takes}
 use Rattle.tlb.specs.TwoLevel.{PageEntry, two_level}
 
 abbrev says : Form → ℕ → ℕ → ℕ → Option Translation
@@ -39,10 +39,6 @@ module _ (e : Entry) (p : ℕ) (t : Translation) (own : PageEntry e p t) where
     within_or P old new q x h = ⊎_elim (old q x) (λ says. let (i, j) = says_only q x says in rw (i, j) new) (taken.from q x h)
 
 module _ {X Y : Type 0} (a : TlbMeaning X) (b : TlbMeaning Y) (s u : TwoLevelTlb X Y) where
-  pub both_gone : (p : ℕ) → (HasPair a.pairs u.first p → ⊥) → (HasPair b.pairs u.second p → ⊥) → HasPair (two_level a b).pairs u p → ⊥
-  both_gone p f g (t, inl h) = f (t, h)
-  both_gone p f g (t, inr h) = g (t, h)
-
   -- the first level, left as f by its probe, was loaded with what the second has for the page
   pub filled_within : (f : X) (e : Entry) (p : ℕ) (t : Translation) → PageEntry e p t → Within a.pairs s.first f → b.pairs s.second p t → Loads a.pairs f e p u.first → Within b.pairs s.second u.second → Within (two_level a b).pairs s u
   filled_within f e p t own within pair loads below q x (inl h) =

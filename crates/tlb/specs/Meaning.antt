@@ -25,9 +25,9 @@ pub record SameMeaning {X : Type 0} (a b : TlbMeaning X) : Type 0 where
   pub flushed : (s u : X) → Same (a.flushed s u) (b.flushed s u)
 
 module _ {X : Type 0} (pairs : X → ℕ → Translation → Type 0) where
-  -- the TLB may answer for the page
-  abbrev pub HasPair : X → ℕ → Type 0
-  HasPair s p = (t : Translation) × pairs s p t
+  -- the TLB has no pair of the page
+  abbrev pub Lacks : X → ℕ → Type 0
+  Lacks s p = (t : Translation) → pairs s p t → ⊥
 
   -- no page has two translations
   abbrev pub Agree : X → Type 0
@@ -39,7 +39,7 @@ module _ {X : Type 0} (pairs : X → ℕ → Translation → Type 0) where
 
   -- an answer for the page: none exactly when there is no pair of it, else a pair that is still there
   abbrev pub Answers : X → ℕ → Option Translation → X → Type 0
-  Answers s p r u = MatchOption r (HasPair s p → ⊥) (λ t. pairs s p t × pairs u p t)
+  Answers s p r u = MatchOption r (Lacks s p) (λ t. pairs s p t × pairs u p t)
 
   -- an entry that says t of the page came in: the page has just that pair, and each pair was there or comes from the entry
   pub record Takes (s : X) (e : Entry) (p : ℕ) (t : Translation) (u : X) : Type 0 where

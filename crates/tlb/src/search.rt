@@ -1,6 +1,6 @@
 // Probing and purging, over lent slots of any kind.
 ghost use Rattle.std.specs.Prelude.{◌≡◌, ℕ, ◌<◌, ◌≤◌, length, IfSome};
-ghost use Rattle.tlb.specs.Meaning.{HasPair, Within, Answers};
+ghost use Rattle.tlb.specs.Meaning.{Lacks, Within, Answers};
 ghost use Rattle.tlb.specs.Slots.{in_slot, Holds, holders, first_place, first_held, without_page, Each, Becomes};
 
 use crate::slot::Slot;
@@ -33,7 +33,7 @@ pub fn find<S: Slot>(slots: &[Option<S>], page: Page) -> Option<Translation>
 pub fn purge<S: Slot>(slots: &mut [Option<S>], page: Page)
     ensures exact { Each (Becomes (λ s u. S.dropped s page.number u)) slots.old slots.new }
     ensures pages { Each (λ s u. (q : ℕ) → in_slot S.held u q ≡ without_page (in_slot S.held s) page.number q) slots.old slots.new }
-    ensures gone { HasPair (Holds (in_slot S.held)) slots.new page.number → ⊥ }
+    ensures gone { Lacks (Holds (in_slot S.held)) slots.new page.number }
     ensures within { Within (Holds (in_slot S.held)) slots.old slots.new }
     ensures fewer { (q : ℕ) → holders (in_slot S.held) slots.new q ≤ holders (in_slot S.held) slots.old q }
 {

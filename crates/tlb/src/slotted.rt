@@ -1,6 +1,6 @@
 // A TLB of slots as a TLB.
 ghost use Rattle.std.specs.Prelude.{ℕ};
-ghost use Rattle.tlb.specs.Meaning.{Agree, HasPair};
+ghost use Rattle.tlb.specs.Meaning.{Agree, Lacks};
 ghost use Rattle.tlb.specs.Slotted.{slotted, AllEmpty};
 
 use crate::entry::Entry;
@@ -14,7 +14,7 @@ use words::{Page, Translation};
 impl<S: Fill> SlotTlb<S> {
     pub fn new() -> SlotTlb<S>
         ensures empty { AllEmpty result }
-        ensures gone { (q : ℕ) → HasPair (slotted S.Slot S.Fill.own).pairs result q → ⊥ }
+        ensures gone { (q : ℕ) → Lacks (slotted S.Slot S.Fill.own).pairs result q }
     {
         SlotTlb {
             slots: [None; 64],

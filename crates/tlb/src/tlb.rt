@@ -1,6 +1,6 @@
 // What a TLB does, whatever it is made of.
 ghost use Rattle.std.specs.Prelude.{ℕ};
-ghost use Rattle.tlb.specs.Meaning.{TlbMeaning, HasPair, Within, Answers, Loads};
+ghost use Rattle.tlb.specs.Meaning.{TlbMeaning, Lacks, Within, Answers, Loads};
 
 use crate::entry::Entry;
 use words::{Page, Translation};
@@ -22,11 +22,11 @@ pub trait Tlb {
     // Forgets the page.
     fn purge(&mut self, page: Page)
         ensures step { meaning.purged self.old page.number self.new }
-        ensures gone { HasPair meaning.pairs self.new page.number → ⊥ }
+        ensures gone { Lacks meaning.pairs self.new page.number }
         ensures within { Within meaning.pairs self.old self.new };
 
     // Forgets everything.
     fn flush(&mut self)
         ensures step { meaning.flushed self.old self.new }
-        ensures gone { (q : ℕ) → HasPair meaning.pairs self.new q → ⊥ };
+        ensures gone { (q : ℕ) → Lacks meaning.pairs self.new q };
 }

@@ -15,7 +15,7 @@ returns g c =
     record {
       exact = exact;
       pages = pages;
-      gone = λ (t, h). lost_gone held xs ys p pages t h;
+      gone = lost_gone held xs ys p pages;
       within = λ q t. lessens_pair held xs ys q t fewer;
       fewer = λ q. lessens_holders held xs ys q fewer;
     }

@@ -4,4 +4,4 @@ use Rattle.tlb.proofs.Rows.{no_pair}
 use Rattle.tlb.proofs.slot_tlb.SlotTlb.new.Goals as goal
 
 pub returns-clause-gone : goal.returns-clause-gone
-returns-clause-gone g c q (t, h) = no_pair (in_slot g.S.Slot.held) (replicate 64 None) q t refl h
+returns-clause-gone g c q t h = no_pair (in_slot g.S.Slot.held) (replicate 64 None) q t refl h

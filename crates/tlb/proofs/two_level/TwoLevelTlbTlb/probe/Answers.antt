@@ -2,13 +2,9 @@ use Rattle.std.proofs.Common.{refl, inr, rules}
 use Rattle.words.specs.declared.word.Word.TheVariants.{Full}
 use Rattle.tlb.specs.declared.entry.Entry.{Entry}
 use Rattle.tlb.specs.TwoLevel.{PageEntry}
-use Rattle.tlb.proofs.Levels.{both_gone, filled_within}
+use Rattle.tlb.proofs.Levels.{filled_within}
 use Rattle.tlb.proofs.two_level.TwoLevelTlbTlb.probe.Goals as goal
 use Rattle.tlb.proofs.two_level.TwoLevelTlbTlb.probe.Goals.{After-load}
-
--- neither level has a pair
-pub returns-in_err-translation-clause-answer : goal.returns-in_err-translation-clause-answer
-returns-in_err-translation-clause-answer g c = rw c.from_residual.ensures (search (rules, both_gone, c.in_default.ensures.answer, c.in_err-translation.ensures.answer))
 
 -- the second level's pair is loaded into the first
 abbrev entry : (g : _) → After-load g → Entry
