@@ -1,5 +1,5 @@
 -- What is held of a block, by its node.
-use Rattle.std.proofs.Common.{◌^◌, option_and_then, Option, ◌≡◌, ℕ, zero, suc, ◌+◌, ◌<◌, ◌≤◌, true, false, eqb, ltb, ◌≢◌, List, [], ◌∷◌, length, get_or, set, is_some, Some, None, sym, refl, ap, ◌∙◌, subst, ⊎_elim, arith}
+use Rattle.std.proofs.Common.{◌^◌, option_and_then, Option, ◌≡◌, ℕ, zero, suc, ◌+◌, ◌<◌, ◌≤◌, true, false, eqb, ltb, ◌≢◌, List, [], ◌∷◌, length, drop, get_or, set, is_some, Some, None, sym, refl, ap, ◌∙◌, subst, ⊎_elim, arith}
 use mathlib.Core.Path.{fun_ext}
 use Rattle.std.proofs.lemmas.List.{get_or-set_same, get_or-set_other}
 use Rattle.std.proofs.lemmas.Option.{slice_get_past, slice_get-get_or}
@@ -192,6 +192,16 @@ nth_at {X = X} xs i v l = fun_ext (λ k. ⊎_elim
 pub owner_set : (ns : List Node) (i : ℕ) (n : Node) → i < length ns → owner (set ns i n) ≡ at (owner ns) i (owner_in n)
 owner_set ns i n l = ap (λ f k. option_and_then owner_in (f k)) (nth_at ns i n l) ∙ at_map (option_and_then owner_in) (slice_get ns) i (Some n)
 
+-- the element after k others
+dropped : (l : List ℕ) (k x : ℕ) (m : List ℕ) → drop k l ≡ x ∷ m → (k < length l) × (slice_get l k ≡ Some x) × (drop (k + 1) l ≡ m)
+dropped [] zero x m e = cc
+dropped [] (suc k) x m e = cc
+dropped (y ∷ l) zero x m e = (omega arith, cc, cc)
+dropped (y ∷ l) (suc k) x m e =
+    let (less, own, rest) = dropped l k x m e in
+    let more : suc k + 1 ≡ suc (k + 1) = omega arith in
+    (omega arith, own, ap (λ j. drop j (y ∷ l)) more ∙ rest)
+
 -- a search for the block b that has come to i, which is a node or an end of its chain
 pub record Search (c : Chains) (b i : ℕ) : Type 0 where
   pub going : Going (next_in c) (home_in c) (bucket_of b) i
@@ -237,6 +247,14 @@ module _ (c : Chains) (b : ℕ) where
 
   pub shorter : (i : ℕ) → Search c b i → i < 256 → length (walk (next_in c) 256 i) ≡ length (walk (next_in c) 256 (next_in c i)) + 1
   shorter i s l = falls (next_in c) (home_in c) (bucket_of b) i s.going l
+
+  -- the node i comes after k nodes of the chain
+  pub after : (k i : ℕ) → Search c b i → i < 256 → drop k (chain_from (next_in c) (bucket_of b)) ≡ walk (next_in c) 256 i
+      → (k < length (chain_from (next_in c) (bucket_of b))) × (slice_get (chain_from (next_in c) (bucket_of b)) k ≡ Some i) × (drop (k + 1) (chain_from (next_in c) (bucket_of b)) ≡ walk (next_in c) 256 (next_in c i))
+  after k i s l e =
+      let p = step (next_in c) (home_in c) (bucket_of b) i s.going l in
+      let (less, own, rest) = dropped (chain_from (next_in c) (bucket_of b)) k i p.0 (e ∙ p.1) in
+      (less, own, rest ∙ sym p.2)
 
 -- a linked node's block
 pub linked_block : (c : Chains) (b i : ℕ) → Search c b i → i < 256 → block_in c i ≡ b → block_of_node c i ≡ Some b

@@ -1,5 +1,5 @@
 -- What is held of each block.
-use Rattle.std.specs.Prelude.{◌≡◌, ℕ, ◌^◌, ◌≤◌, ◌&&◌, ◌==◌, is_some, Some, None, Option, MatchOption, option_and_then, slice_index_or}
+use Rattle.std.specs.Prelude.{◌≡◌, ℕ, ◌-◌, ◌^◌, ◌≤◌, ◌&&◌, ◌==◌, is_some, Some, None, Option, MatchOption, option_and_then, slice_index_or}
 use Rattle.std.specs.Option.{option_map}
 use Rattle.std.specs.List.{slice_get}
 use Rattle.words.specs.Layout.{bucket_of}
@@ -10,7 +10,7 @@ use Rattle.chains.specs.declared.node.Body.{Body}
 use Rattle.chains.specs.declared.node.Found.{Found}
 use Rattle.chains.specs.declared.node.Way.{Way}
 use Rattle.chains.specs.Contents.{body_in}
-use Rattle.chains.specs.Nodes.{link_at, block_at, owner, home_at, node_for, IsPlace}
+use Rattle.chains.specs.Nodes.{link_at, block_at, owner, home_at, chain_from, node_for, IsPlace}
 
 -- the node of the block, or 256
 abbrev pub node_of : Chains → ℕ → ℕ
@@ -32,12 +32,13 @@ block_of_node c i = option_map (λ b. b.number) (owner c.nodes i)
 abbrev pub nodes_in : Chains → ℕ → ℕ
 nodes_in c k = how_many (λ b. is_some (body_of c b) && bucket_of b == k) (2 ^ 48)
 
--- the block's node was found after that many nodes of its chain
+-- the block's node was found: that many nodes of its chain were looked at, and it is the last of them
 pub record Finds (c : Chains) (b : ℕ) (f : Found) : Type 0 where
   pub node : node_of c b ≡ f.node
   pub block : block_of_node c f.node ≡ Some b
   pub some : 1 ≤ f.looked
   pub most : f.looked ≤ nodes_in c (bucket_of b)
+  pub last : slice_get (chain_from (link_at c.links) (bucket_of b)) (f.looked - 1) ≡ Some f.node
 
 -- the block's node was found, and a place of its chain whose link leads to it
 pub record Leads (c : Chains) (b : ℕ) (w : Way) : Type 0 where

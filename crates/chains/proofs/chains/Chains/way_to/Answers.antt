@@ -1,16 +1,21 @@
-use Rattle.std.proofs.Common.{◌+◌, ◌<◌, eqb, length, get_or, sym, ap, ◌∙◌, subst, inr, arith}
+use Rattle.std.proofs.Common.{◌≡◌, ◌+◌, ◌-◌, ◌<◌, eqb, length, get_or, sym, ap, ◌∙◌, subst, inr, arith}
 use Rattle.words.specs.Layout.{bucket_of}
 use Rattle.chains.specs.Links.{walk}
-use Rattle.chains.specs.Nodes.{link_number}
-use Rattle.chains.proofs.Held.{next_in, home_in, Search, at_it, is_it, goes_past, ends, shorter, home, linked_block}
+use Rattle.std.specs.List.{slice_get}
+use Rattle.chains.specs.Nodes.{link_number, chain_from}
+use Rattle.chains.proofs.Held.{next_in, home_in, Search, after, at_it, is_it, goes_past, ends, shorter, home, linked_block}
 use Rattle.chains.proofs.Buckets.{chain_count}
 use Rattle.chains.proofs.Steps.{length_most}
 use Rattle.chains.proofs.chains.Chains.way_to.Goals as goal
 
 pub overflow_add-looked : goal.overflow_add-looked
 overflow_add-looked c =
-    let m = length_most (next_in c.args.self.now) 256 (next_in c.args.self.now (256 + bucket_of c.args.block.number)) in
-    let e = c.loop-place.invariant.passed in
+    let s = c.args.self.now in
+    let b = c.args.block.number in
+    let i = c.in-Some.node in
+    let at_i : Search s b i = subst (Search s b) (ap link_number c.in-Some.is) c.loop-place.invariant.search in
+    let less = (after s b c.loop-place.looked i at_i (omega arith) (c.loop-place.invariant.passed ∙ ap (walk (next_in s) 256) (ap link_number c.in-Some.is))).0 in
+    let m = length_most (next_in s) 256 (next_in s (256 + bucket_of b)) in
     omega arith
 
 pub returns-then-is_of : goal.returns-then-is_of
@@ -22,12 +27,17 @@ returns-then-is_of c =
     let small : i < 256 = omega arith in
     let at_i : Search s b i = subst (Search s b) (ap link_number c.in-Some.is) q.search in
     let own = is_it s b i c.index-self-from.result at_i small (ap (λ k. eqb (get_or s.nodes k c.index-self-from.result).block.number b) (sym c.from.ensures) ∙ sym c.is_of.ensures ∙ c.if-is_of.true) in
-    let d = shorter s b i at_i small in
-    let e = ap (λ k. length (walk (next_in s) 256 k)) (ap link_number c.in-Some.is) in
-    let p = q.passed in
+    let (less, last, rest) = after s b c.loop-place.looked i at_i small (q.passed ∙ ap (walk (next_in s) 256) (ap link_number c.in-Some.is)) in
+    let one : c.loop-place.looked + 1 - 1 ≡ c.loop-place.looked = omega arith in
     let most = chain_count s (bucket_of b) (omega arith) in
     record {
-      found = record { node = at_it s b i at_i small own; block = linked_block s b i at_i small own; some = omega arith; most = omega arith };
+      found = record {
+        node = at_it s b i at_i small own;
+        block = linked_block s b i at_i small own;
+        some = omega arith;
+        most = omega arith;
+        last = ap (slice_get (chain_from (next_in s) (bucket_of b))) one ∙ last;
+      };
       place = q.place;
       link = c.in-Some.is;
     }
@@ -51,16 +61,13 @@ loop-place-preserved c =
     let q = c.loop-place.invariant in
     let small : i < 256 = omega arith in
     let at_i : Search s b i = subst (Search s b) (ap link_number c.in-Some.is) q.search in
-    let d = shorter s b i at_i small in
-    let e = ap (λ k. length (walk (next_in s) 256 k)) (ap link_number c.in-Some.is) in
-    let f = ap (λ k. length (walk (next_in s) 256 (next_in s k))) c.from-place.ensures in
-    let p = q.passed in
+    let (less, last, rest) = after s b c.loop-place.looked i at_i small (q.passed ∙ ap (walk (next_in s) 256) (ap link_number c.in-Some.is)) in
     let k = c.from-place.ensures in
     record {
       search = subst (λ k. Search s b (next_in s k)) (sym c.from-place.ensures)
           (goes_past s b i c.index-self-from.result at_i small (ap (λ k. eqb (get_or s.nodes k c.index-self-from.result).block.number b) (sym c.from.ensures) ∙ sym c.is_of.ensures ∙ c.if-is_of.false));
       place = inr (omega arith, ap (home_in s) c.from-place.ensures ∙ home s b i at_i small);
-      passed = omega arith;
+      passed = rest ∙ ap (λ k. walk (next_in s) 256 (next_in s k)) (sym c.from-place.ensures);
     }
 
 pub returns : goal.returns

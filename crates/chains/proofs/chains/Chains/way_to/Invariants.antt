@@ -1,4 +1,4 @@
-use Rattle.std.proofs.Common.{◌≡◌, ◌+◌, length}
+use Rattle.std.proofs.Common.{◌≡◌, length, drop}
 use Rattle.words.specs.Layout.{bucket_of}
 use Rattle.chains.specs.Links.{walk}
 use Rattle.chains.specs.Nodes.{home_at, chain_from, IsPlace}
@@ -9,7 +9,7 @@ abbrev pub invariant-loop-place : goal.invariant-loop-place
 invariant-loop-place l = record {
   search : Search l.self l.block.number (next_in l.self l.place);
   place : IsPlace (home_at l.self.nodes) (bucket_of l.block.number) l.place;
-  passed : l.looked + length (walk (next_in l.self) 256 (next_in l.self l.place)) ≡ length (chain_from (next_in l.self) (bucket_of l.block.number));
+  passed : drop l.looked (chain_from (next_in l.self) (bucket_of l.block.number)) ≡ walk (next_in l.self) 256 (next_in l.self l.place);
 }
 
 abbrev pub decreases-loop-place : goal.decreases-loop-place
