@@ -22,13 +22,15 @@ invariant_of-self c =
     let r = c.requires in
     let small : n < 256 = omega arith in
     let wl : length s.links ≡ 321 = omega arith in
+    let counted = pushed_counted s b m y h _ n o.0 o.1 e f r.absent r.free small wl in
+    let held = pushed_held s b m y h _ n o.0 o.1 e f r.absent r.free small wl in
     record {
       wide = length-set s.nodes _ _ ∙ s.wide;
       sound = pushed_sound s b m y h _ n o.0 o.1 e f r.absent r.free small wl;
       single = pushed_single s b m y h _ n o.0 o.1 e f r.absent r.free small wl;
       kept = pushed_kept s b m y h _ n o.0 o.1 e f r.absent r.free small wl;
-      counted = pushed_counted s b m y h _ n o.0 o.1 e f r.absent r.free small wl;
-      held = pushed_held s b m y h _ n o.0 o.1 e f r.absent r.free small wl;
+      counted = omega arith;
+      held = omega arith;
     }
 
 pub returns : goal.returns

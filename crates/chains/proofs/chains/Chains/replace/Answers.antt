@@ -25,7 +25,7 @@ pub returns-then-is_some : goal.returns-then-is_some
 returns-then-is_some c =
     let e = c.from-own.ensures in
     let (b, h) = c.of.ensures in
-    replaced_puts c.args.self.now c.from-own.result _ c.of.result c.args.body (omega arith) b h (ap is_some (sym c.body.ensures) ∙ sym c.is_some.ensures ∙ c.if-is_some.true) c.args.node e
+    replaced_puts c.args.self.now c.from-own.result _ c.of.result c.args.body (omega arith) b h (ap is_some (sym c.body.ensures) ∙ sym c.is_some.ensures ∙ c.if-is_some.true) c.args.node (omega arith)
 
 pub returns-else-is_some : goal.returns-else-is_some
 returns-else-is_some c =
