@@ -1,5 +1,5 @@
 -- What is held of a block's pages, and what that says of its body.
-use Rattle.std.proofs.Common.{◌≡◌, ℕ, zero, suc, ◌+◌, ◌*◌, ◌/◌, ◌%◌, ◌^◌, ◌<◌, ◌≤◌, Bool, true, false, cond, ltb, Some, None, Option, is_some, sym, refl, ap, ◌∙◌, ap₂, ⊎_elim, ◌⊎◌, inl, inr, arith}
+use Rattle.std.proofs.Common.{◌≡◌, ℕ, zero, suc, ◌+◌, ◌*◌, ◌/◌, ◌%◌, ◌^◌, ◌<◌, ◌≤◌, Bool, true, false, cond, ltb, Some, None, Option, is_some, length, subst, sym, refl, ap, ◌∙◌, ap₂, ⊎_elim, ◌⊎◌, inl, inr, arith}
 use Rattle.std.proofs.lemmas.Bool.{cases_eq, cases_Bool, both_ways, and_parts, eqb-true, eqb-false, ltb-true, lt-ltb}
 use Rattle.std.proofs.lemmas.Nat.{mod-pow-add}
 use Rattle.words.specs.declared.compact.CompactWord.{CompactWord}
@@ -168,6 +168,12 @@ module _ (s : Blocks) where
       there_some : (k a o : ℕ) (b : Bool) → is_some (there k a o b) ≡ b
       there_some k a o true = refl
       there_some k a o false = refl
+
+  pub used_count : (n : ℕ) → n ≡ how_many (λ b. is_some (body_of s.chains b)) (2 ^ 48) → UsedBlocks (held s) n
+  used_count n e = subst (UsedBlocks (held s)) (sym e) exactly_used
+
+  pub rowed_count : (n : ℕ) → n + length s.rows.spare.items ≡ 128 → RowedBlocks (held s) n
+  rowed_count n e = let t = s.taken in subst (RowedBlocks (held s)) (let z : how_many (has_row s.chains) (2 ^ 48) ≡ n = omega arith in z) exactly_rowed
 
   -- at most sixteen pages of each block that is used
   pub pages_most : how_many (λ p. is_some (held s p)) (2 ^ 52) ≤ 4096
