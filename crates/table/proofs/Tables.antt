@@ -39,6 +39,9 @@ pages_at m n p x e =
 pub exactly_mapped : (m : Mapping) → MappedPages m (pages_of m)
 exactly_mapped m = record { test = λ p. is_some (m p); tells = λ p l. (is_mapped (m p), λ t. ap is_some t.1); many = refl }
 
+pub counted_pages : (s : PageTable) → MappedPages (mapping s) s.pages
+counted_pages s = subst (MappedPages (mapping s)) (sym s.counted) (exactly_mapped (mapping s))
+
 -- a table is its blocks and its count: what its type says of them has one proof
 pub same_table : (t s : PageTable) → t.blocks ≡ s.blocks → t.pages ≡ s.pages → t ≡ s
 same_table t s e f = over t.blocks t.pages e f t.counted
