@@ -17,7 +17,7 @@ use Rattle.blocks.specs.Held.{held_in}
 abbrev pub held : Blocks → Mapping
 held t = held_in t.chains t.rows.rows
 
--- the block b has mapped pages, and no compact word can have them: it has a row
+-- the block b has mapped pages that no compact word can have, so it needs a row
 abbrev pub Rowed : Mapping → ℕ → Type 0
 Rowed m b = Used m b × (Compact m b → ⊥)
 
@@ -25,11 +25,11 @@ Rowed m b = Used m b × (Compact m b → ⊥)
 abbrev pub UsedBlocks : Mapping → ℕ → Type 0
 UsedBlocks m n = Exactly n (2 ^ 48) (Used m)
 
--- exactly n blocks have a row
+-- exactly n blocks need a row
 abbrev pub RowedBlocks : Mapping → ℕ → Type 0
 RowedBlocks m n = Exactly n (2 ^ 48) (Rowed m)
 
--- exactly n blocks of the bucket k have a mapped page: so many nodes has its chain
+-- exactly n blocks of the bucket k have a mapped page, each on a node of one chain
 abbrev pub ChainOf : Mapping → ℕ → ℕ → Type 0
 ChainOf m k n = Exactly n (2 ^ 48) (λ b. Used m b × (bucket_of b ≡ k))
 
@@ -42,11 +42,11 @@ pub record Walks (m : Mapping) (p : ℕ) (w : Walked) : Type 0 where
   pub some : 1 ≤ w.looked
   pub most : (n : ℕ) × ChainOf m (bucket_of (block_of p)) n × (w.looked ≤ n)
 
--- the block b would have its first mapped page, and all 256 nodes are linked
+-- the block b would have its first mapped page, and 256 blocks have one already
 abbrev pub NodesOut : Mapping → Mapping → ℕ → Type 0
 NodesOut m n b = Used n b × (Used m b → ⊥) × UsedBlocks m 256
 
--- the block b would need a row, has none, and all 128 are in use
+-- the block b would need a row and needs none yet, and 128 blocks need one already
 abbrev pub RowsOut : Mapping → Mapping → ℕ → Type 0
 RowsOut m n b = Rowed n b × (Rowed m b → ⊥) × RowedBlocks m 128
 

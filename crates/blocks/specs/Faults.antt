@@ -3,7 +3,7 @@ use Rattle.std.specs.Prelude.{ℕ, List, codes}
 use Rattle.blocks.specs.declared.fault.NoRoom.{NoRoom}
 use Rattle.blocks.specs.declared.fault.NoRoom.TheVariants.{NoNode, NoRow}
 
--- the block would be the first to use a node past the last one; or a row
+-- no node is left for a block that has none, or no row for one that needs it
 abbrev pub room_number : NoRoom → ℕ
 room_number NoNode = 7
 room_number NoRow = 8

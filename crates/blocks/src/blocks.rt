@@ -18,7 +18,7 @@ use chains::{Body, Chains, RowNumber};
 use words::{Block, CompactWord, Offset, Page, Translation, Word};
 
 // Each row is spare or of just one block. A block has a row exactly where no compact word can have its pages; where one can, its node has
-// that word.
+// that word. That words have 64 bits is kept since the definitions take a word for any number.
 #[derive(Drop)]
 pub struct Blocks {
     chains: Chains,

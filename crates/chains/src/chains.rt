@@ -91,9 +91,9 @@ impl Chains {
         ensures { Writes self.old node body self.new }
     {
         let own = usize::from(node);
-        let node = self.nodes[own];
-        if node.body().is_some() {
-            self.nodes[own] = Node::of(node.block, body);
+        let held = self.nodes[own];
+        if held.body().is_some() {
+            self.nodes[own] = Node::of(held.block, body);
         }
     }
 
@@ -131,7 +131,6 @@ impl Chains {
         let mut place = HEADS + block.bucket();
         let mut looked = 0;
         while let Some(node) = self.links[place] {
-            // how many were looked at is an answer, not an index
             looked += 1;
             if self.nodes[usize::from(node)].is_of(block) {
                 let found = Found { node, looked };

@@ -1,11 +1,10 @@
 -- What is refused, by the room that is lacking.
-use Rattle.std.proofs.Common.{◌≡◌, ℕ, ◌≤◌, Some, None, Option, Result, Ok, Err, MatchResult, is_some, sym, refl, ap, ◌∙◌, subst, arith}
+use Rattle.std.proofs.Common.{◌≡◌, ℕ, ◌≤◌, Some, None, Result, Ok, Err, MatchResult, is_some, sym, refl, ap, ◌∙◌, subst, arith}
 use Rattle.std.proofs.lemmas.Bool.{both_ways}
 use Rattle.std.specs.Option.{option_map}
 use Rattle.std.specs.Result.{IsErrAnd}
 use Rattle.words.specs.declared.translation.Translation.{Translation}
-use Rattle.words.specs.Layout.{block_of, offset_of, page_at, in_range}
-use Rattle.words.specs.Made.{Made}
+use Rattle.words.specs.Layout.{block_of, offset_of, page_at}
 use Rattle.words.specs.Points.{at}
 use Rattle.words.specs.Reading.{translation}
 use Rattle.words.specs.Blocks.{Mapping, IsMapped, Used}
@@ -50,7 +49,3 @@ module _ (m : Mapping) (p : ℕ) where
 
     pub protect_accepted : (n : Mapping) → Sets m p (Some u) n → Accepted (protect_refusals m p x)
     protect_accepted n s = ((λ l. omega arith), (some, ((λ r. s.room NoRow ((λ (u, nu, n). nu (used t e)), subst (λ n. RowsOut m n (block_of p)) (sym (protected_is t u x e f a)) r)), tt)))
-
--- a translation that was made of its parts
-pub made_new : (f a : ℕ) (o : Option Translation) → Made o (in_range f a) (λ t. (t.frame ≡ f) × (t.attributes ≡ a)) → (u : Translation) → o ≡ Some u → (u.frame ≡ f) × (u.attributes ≡ a)
-made_new f a o h u e = (subst (λ x. Made x (in_range f a) (λ t. (t.frame ≡ f) × (t.attributes ≡ a))) e h).1

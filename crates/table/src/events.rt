@@ -48,10 +48,8 @@ pub fn replay(events: &mut [Event]) -> PageTable
     ensures { Replays events.old events.new (mapping result) }
 {
     let mut table = PageTable::new();
-    for i in 0..events.len() {
-        let call = events[i].call;
-        let refused = table.perform(call);
-        events[i] = Event { call, refused };
+    for event in events.iter_mut() {
+        event.refused = table.perform(event.call);
     }
     table
 }

@@ -6,7 +6,7 @@ use blocks::NoRoom;
 use std::error::Error;
 use std::fmt;
 
-// Why a page is not mapped.
+// Why a page is not mapped to a translation.
 #[derive(Clone, Copy, PartialEq, Eq, Debug)]
 pub enum MapFault {
     // The page is mapped already.
@@ -23,7 +23,7 @@ pub enum ProtectFault {
     // Attributes over 4,095.
     BadAttributes,
     NotMapped,
-    // As for a page that is mapped.
+    // As in `MapFault`.
     NoRow,
 }
 

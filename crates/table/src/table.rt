@@ -8,7 +8,11 @@ ghost use Rattle.table.specs.Refusals.{First, Accepted};
 
 use crate::fault::{MapFault, NotMapped, ProtectFault};
 use blocks::{Blocks, Walked};
+use std::mem::size_of;
 use words::{Page, Translation};
+
+// The most that a table may take.
+const _: () = prove!(size_of::<PageTable>() <= 24_576);
 
 // The count of mapped pages is kept, so that none has to be counted.
 #[derive(Drop)]
@@ -18,7 +22,7 @@ pub struct PageTable {
     ghost counted: { pages ≡ how_many (λ p. is_some (held blocks p)) (2 ^ 52) },
 }
 
-// How many nodes are linked, how many rows are in use, and how many pages are mapped.
+// How many blocks have a mapped page, and so a node; how many of them need a row; and how many pages are mapped.
 #[derive(Clone, Copy, PartialEq, Eq, Debug)]
 pub struct Census {
     pub nodes: u16,
@@ -93,9 +97,10 @@ impl PageTable {
             return Err(ProtectFault::BadAttributes);
         }
         let former = self.lookup(page).ok_or(ProtectFault::NotMapped)?;
-        let translation = Translation::new(former.frame, attributes).ok_or(
-            ProtectFault::BadAttributes,
-        )?;
+        let translation = Translation {
+            frame: former.frame,
+            attributes,
+        };
         match self.blocks.set(page, Some(translation)) {
             Ok(()) => Ok(former.attributes),
             // the block has a node

@@ -160,6 +160,32 @@ mod tests {
         assert_eq!(rt; words(&table), (0, 1, 0, 0), "unlinked at the end");
     }
 
+    // The first page of the nth block of bucket 0.
+    fn first_page(n: u64) -> u64 {
+        let turn = n % 64;
+        (n % 0x1000 * 64 + (64 - turn) % 64) * 16
+    }
+
+    #[test]
+    fn a_long_chain_gives_nodes_and_rows_back(rt: HostRuntime) {
+        let mut table = PageTable::new();
+        for n in 0..100u64 {
+            assert_eq!(rt; table.map(page(first_page(n)), to(0x2001, 3)), Ok(()));
+        }
+        assert_eq!(rt; table.census(), census(100, 100, 100));
+        assert_eq!(rt; walked(&table, first_page(0)).2, 100, "the end");
+        assert_eq!(rt; table.unmap(page(first_page(50))).is_ok(), true, "in the middle");
+        assert_eq!(rt; walked(&table, first_page(0)).2, 99);
+        assert_eq!(rt; walked(&table, first_page(51)).2, 49, "before it");
+        assert_eq!(rt; table.map(page(first_page(50)), to(0x2000, 3)), Ok(()), "linked again");
+        assert_eq!(rt; walked(&table, first_page(50)), (1, 0x0001_0000_0200_0003, 1));
+        assert_eq!(rt; table.census(), census(100, 99, 100));
+        for n in 0..100u64 {
+            assert_eq!(rt; table.unmap(page(first_page(n))).is_ok(), true);
+        }
+        assert_eq!(rt; table.census(), census(0, 0, 0));
+    }
+
     #[test]
     fn calls_are_replayed(rt: HostRuntime) {
         let event = |call: Call| Event { call, refused: false };
