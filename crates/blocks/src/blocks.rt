@@ -68,7 +68,9 @@ impl Blocks {
         ensures { MatchOption result (held self.now page.number ≡ None) (λ w. Walks (held self.now) page.number w) }
     {
         let found = self.chains.find(page.block())?;
-        let word = match self.chains.body(found.node)? {
+        // a node that was found is not free
+        let body = self.chains.body(found.node).unwrap();
+        let word = match body {
             Body::Compact(word) => Word::Compact(word),
             Body::Row(row) => Word::Full(self.rows.word(row, page.offset())),
         };

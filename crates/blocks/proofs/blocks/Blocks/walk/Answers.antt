@@ -12,11 +12,11 @@ returns c =
     let s = c.args.self.now in
     let p = c.args.page.number in
     let f = c.in_ok-found.found in
-    let v = c.match-branch-3.word in
-    let has = sym c.body.ensures ∙ c.in_ok-word.was in
+    let v = c.match-body.word in
+    let has = sym c.body.ensures ∙ c.unwrap-body.ensures in
     let read = ap (said (form_of v) (bits_of v)) (sym c.offset-2.ensures) ∙ sym c.read.ensures ∙ c.in_ok-read.was in
-    elim c.match-branch-3.branch [
-      | in-Compact w ↦ walks_word s p c.block.result.number f c.in_ok-word.field-0 c.block.ensures c.in_ok-found.ensures has w.in-Compact.word v c.in_ok-read.field-0 w.in-Compact.is w.word-is read
-      | in-Row w ↦ walks_row s p c.block.result.number f c.in_ok-word.field-0 c.block.ensures c.in_ok-found.ensures has w.in-Row.row w.word.result v c.in_ok-read.field-0 w.in-Row.is w.word-is
+    elim c.match-body.branch [
+      | in-Compact w ↦ walks_word s p c.block.result.number f c.unwrap-body.result c.block.ensures c.in_ok-found.ensures has w.in-Compact.word v c.in_ok-read.field-0 w.in-Compact.is w.word-is read
+      | in-Row w ↦ walks_row s p c.block.result.number f c.unwrap-body.result c.block.ensures c.in_ok-found.ensures has w.in-Row.row w.word.result v c.in_ok-read.field-0 w.in-Row.is w.word-is
           (w.word.ensures ∙ ap (λ o. page_word (row_pages s.rows.rows w.in-Row.row.number o)) w.offset.ensures) read
     ]
