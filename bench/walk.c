@@ -139,7 +139,7 @@ static uint64_t hand_walks(unsigned nodes, uint64_t rounds, unsigned shift)
     for (uint64_t i = 0; i < rounds; i++) {
         struct walked walked;
 
-        state = state * UINT64_C(6364136223846793005) + UINT64_C(1442695040888963407);
+        state = state * 1566083941 + 1;
         if (walk(&table, pages[state >> 56], &walked))
             sum += walked.word + walked.looked;
     }

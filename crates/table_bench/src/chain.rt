@@ -2,10 +2,10 @@
 use table::PageTable;
 use words::{Page, Translation};
 
-// The order of the walks: the upper bits of a linear congruential generator.
-const MULTIPLIER: u64 = 6_364_136_223_846_793_005;
+// The order of the walks: the upper bits of a linear congruential generator, whose constants are operands of 32 bits, so that they take little time.
+const MULTIPLIER: u64 = 1_566_083_941;
 
-const INCREMENT: u64 = 1_442_695_040_888_963_407;
+const INCREMENT: u64 = 1;
 
 #[derive(Drop)]
 pub(crate) struct Chain {
