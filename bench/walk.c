@@ -11,7 +11,6 @@
 #include <string.h>
 #include <time.h>
 
-uint64_t joistolive_bench_size(void);
 uint64_t joistolive_bench_walks(uint64_t nodes, uint64_t rounds);
 uint64_t joistolive_bench_row_walks(uint64_t nodes, uint64_t rounds);
 
@@ -199,6 +198,7 @@ static double per_walk(struct least least, uint64_t rounds)
     return (least.whole - least.set_up) / rounds;
 }
 
+/* The least of several runs of each, in turn, without the set-up. */
 static bool compare(const char *form, walks *proved, walks *hand, uint64_t nodes, unsigned repeats)
 {
     const uint64_t rounds = 100000;
@@ -213,19 +213,16 @@ static bool compare(const char *form, walks *proved, walks *hand, uint64_t nodes
             return false;
         }
     }
-    double x = per_walk(a, rounds), y = per_walk(b, rounds);
-    printf("%-8s %5" PRIu64 " %10.2f %10.2f %8.2f\n", form, nodes, x, y, x / y);
+    printf("%s %" PRIu64 " %.3f %.3f\n", form, nodes, per_walk(a, rounds), per_walk(b, rounds));
     return true;
 }
 
+/* For each form and number of nodes a line: the nanoseconds of a walk, proved and by hand. */
 int main(int argc, char **argv)
 {
-    unsigned repeats = argc > 1 ? (unsigned)atoi(argv[1]) : 51;
+    unsigned repeats = argc > 1 ? (unsigned)atoi(argv[1]) : 31;
     bool equal = true;
 
-    printf("bytes of a table: %" PRIu64 ", by hand %zu\n", joistolive_bench_size(), sizeof(struct table));
-    printf("least of %u runs of 100,000 walks each, in turn, without the set-up\n", repeats);
-    printf("%-8s %5s %10s %10s %8s\n", "words", "nodes", "proved ns", "by hand ns", "ratio");
     for (uint64_t nodes = 1; nodes <= 4; nodes++)
         equal &= compare("compact", joistolive_bench_walks, hand_compact, nodes, repeats);
     for (uint64_t nodes = 1; nodes <= 4; nodes++)
