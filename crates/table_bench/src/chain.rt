@@ -2,7 +2,7 @@
 use table::PageTable;
 use words::{Page, Translation};
 
-// The order of the walks: the upper bits of a linear congruential generator, whose constants are operands of 32 bits, so that they take little time.
+// The order of the walks is the upper bits of a linear congruential generator. Its constants are short operands, which take little time.
 const MULTIPLIER: u64 = 1_566_083_941;
 
 const INCREMENT: u64 = 1;
