@@ -1,9 +1,9 @@
 -- No block twice on a chain.
 use Rattle.std.proofs.Common.{◌≡◌, ℕ, ◌<◌, true, List, [], ◌∷◌, sym, refl, ap, ◌∙◌, subst, ⊎_elim, arith}
 use Rattle.std.proofs.lemmas.Bool.{and_parts, and_from, eqb-true, eq-eqb, cases_eq}
-use Rattle.chains.specs.Links.{node_with, no_twice}
+use Rattle.chains.specs.Links.{node_with, no_twice, cut}
 use Rattle.chains.proofs.Walks.{Chained, Off, node_framed, node_here, node_past, node_none}
-use Rattle.chains.proofs.Cut.{cut, cut_here, cut_past, before}
+use Rattle.chains.proofs.Cut.{cut_here, cut_past, before}
 
 module _ (bl bl' : ℕ → ℕ) (i : ℕ) (same : (y : ℕ) → (y ≡ i → ⊥) → bl' y ≡ bl y) where
   pub twice_framed : (l : List ℕ) → Off i l → no_twice bl l ≡ true → no_twice bl' l ≡ true

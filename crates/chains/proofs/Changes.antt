@@ -1,5 +1,5 @@
 -- What is held of each block after a body is written, a node linked, or a node unlinked.
-use Rattle.std.proofs.Common.{is_some, option_and_then, ◌≡◌, ℕ, ◌+◌, ◌^◌, ◌<◌, ◌≤◌, true, false, cond, ltb, ◌⊎◌, List, [], length, get_or, set, Some, None, Option, sym, refl, ap, ◌∙◌, subst, ap₂, inl, inr, ⊎_elim, arith, length-set, MatchOption}
+use Rattle.std.proofs.Common.{is_some, option_and_then, ◌≡◌, ℕ, ◌+◌, ◌^◌, ◌<◌, ◌≤◌, true, false, cond, ltb, ◌⊎◌, List, [], ◌∷◌, length, get_or, set, Some, None, Option, sym, refl, ap, ◌∙◌, subst, ap₂, inl, inr, ⊎_elim, arith, length-set, MatchOption}
 use mathlib.Core.Path.{fun_ext}
 use Rattle.std.proofs.lemmas.Option.{slice_get_past, slice_get-get_or}
 use Rattle.std.proofs.lemmas.Bool.{cases_eq, cases_Bool, both_ways, lt-ltb, le-ltb, cond-false}
@@ -15,14 +15,14 @@ use Rattle.chains.specs.declared.node.Node.{Node}
 use Rattle.chains.specs.declared.node.Way.{Way}
 use Rattle.chains.specs.Chains.{node_of, body_of, block_of_node, Leads}
 use Rattle.chains.specs.Counting.{how_many}
-use Rattle.chains.specs.Links.{on}
+use Rattle.chains.specs.Links.{on, cut}
 use Rattle.chains.specs.Blocks.{block_number}
 use Rattle.chains.specs.Contents.{body_in, owner_in}
 use Rattle.chains.specs.Nodes.{link_number, link_at, owner, is_linked, block_at, home_of, home_at, chain_from, node_for, is_held, Sound, Single, Kept, Holds, NoTwice, NoneLost}
 use Rattle.chains.proofs.Counts.{one, many_at, many_all, many_less}
 use Rattle.chains.proofs.Cut.{on_not_off}
-use Rattle.chains.proofs.Held.{has_body, owner_of, at_same, next_in, no_node, home_in, block_in, home_most, no_flag_of_home, node_of_block, block_of_linked, at_map, link_set, owner_set, nth_at}
-use Rattle.chains.proofs.Linking.{at_here, at_there, push_next, push_home, push_block, push_sound, push_single, push_kept, push_here, push_others, cut_next, cut_home, cut_block, cut_sound, cut_single, cut_kept, cut_others, cut_gone}
+use Rattle.chains.proofs.Held.{held_some, has_body, owner_of, at_same, next_in, no_node, home_in, block_in, home_most, no_flag_of_home, node_of_block, block_of_linked, at_map, link_set, owner_set, nth_at}
+use Rattle.chains.proofs.Linking.{at_here, at_there, chain_b₀, chain_other, chain_b, chain_k, push_next, push_home, push_block, push_sound, push_single, push_kept, push_here, push_others, cut_next, cut_home, cut_block, cut_sound, cut_single, cut_kept, cut_others, cut_gone}
 use Rattle.chains.proofs.Steps.{step, over}
 
 -- the body of a node as a function of its place
@@ -242,6 +242,25 @@ module _ (c : Chains) (block : Block) (n : Node) (y : Body) (h i j : ℕ) (of_bl
       ∙ sym (at_there (body_of c) b₀ (Some y) b ne))
       (cases_eq b b₀))
 
+  -- the node is at the head of its chain, and every other chain is as it was
+  chain_after : (k : ℕ) → k < 64 → chain_from (link_at ls) k ≡ at (chain_from (next_in c)) (bucket_of b₀) (node_for (link_at ls) (block_at ns) b₀ ∷ chain_from (next_in c) (bucket_of b₀)) k
+  chain_after k l = ap (λ f. chain_from f k) links ∙ ⊎_elim
+      (λ e. ap (chain_from nx) e ∙ chain_b₀ (next_in c) (home_in c) (block_in c) c.sound c.single c.kept (home_most c) b₀ none left
+      ∙ ap (λ x. x ∷ chain_from (next_in c) (bucket_of b₀)) (first ∙ sym node_here) ∙ sym (at_here (chain_from (next_in c)) (bucket_of b₀) _ k e))
+      (λ ne. chain_other (next_in c) (home_in c) (block_in c) c.sound c.single c.kept (home_most c) b₀ none left k l ne ∙ sym (at_there (chain_from (next_in c)) (bucket_of b₀) _ k ne))
+      (cases_eq k (bucket_of b₀))
+
+  pub pushed_order : MatchOption (body_of c b₀)
+      ((k : ℕ) → k < 64 → chain_from (link_at ls) k ≡ at (chain_from (next_in c)) (bucket_of b₀) (node_for (link_at ls) (block_at ns) b₀ ∷ chain_from (next_in c) (bucket_of b₀)) k)
+      (λ _. chain_from (link_at ls) ≡ chain_from (next_in c))
+  pushed_order = subst (λ o. MatchOption o
+      ((k : ℕ) → k < 64 → chain_from (link_at ls) k ≡ at (chain_from (next_in c)) (bucket_of b₀) (node_for (link_at ls) (block_at ns) b₀ ∷ chain_from (next_in c) (bucket_of b₀)) k)
+      (λ _. chain_from (link_at ls) ≡ chain_from (next_in c))) (sym absent) chain_after
+
+match_some : {X : Type 0} (P Q : Type 0) (o : Option X) → is_some o ≡ true → Q → MatchOption o P (λ _. Q)
+match_some P Q (Some x) t q = q
+match_some P Q None t q = absurd (both_ways false refl t)
+
 -- the node of the block, to which the place q leads, is unlinked; i and j are its number
 module _ (c : Chains) (block : Block) (w : Way) (i : ℕ) (leads : Leads c block.number w) (same : i ≡ w.found.node) (small : w.found.node < 256) (wl : length c.links ≡ 321) where
   abbrev q : ℕ
@@ -358,3 +377,15 @@ module _ (c : Chains) (block : Block) (w : Way) (i : ℕ) (leads : Leads c block
       ∙ apart c i (record { block = block; content = Free }) (omega arith) b (λ e. ne (sym (node_of_block c b (omega arith)).1 ∙ ap (block_in c) (e ∙ sym is_i) ∙ own.1))
       ∙ sym (at_there (body_of c) k₀ None b ne))
       (cases_eq b k₀))
+
+  -- the node is taken out of its chain, and every other chain is as it was
+  chain_after' : (k : ℕ) → k < 64 → chain_from (link_at ls') k ≡ at (chain_from (next_in c)) (bucket_of k₀) (cut (node_of c k₀) (chain_from (next_in c) (bucket_of k₀))) k
+  chain_after' k l = ap (λ f. chain_from f k) links' ∙ ⊎_elim
+      (λ e. ap (chain_from nx') e ∙ chain_b (next_in c) (home_in c) (block_in c) c.sound c.single c.kept (home_most c) q (bucket_of k₀) live place follows
+      ∙ ap (λ x. cut x (chain_from (next_in c) (bucket_of k₀))) (is_i ∙ sym at_q) ∙ sym (at_here (chain_from (next_in c)) (bucket_of k₀) _ k e))
+      (λ ne. chain_k (next_in c) (home_in c) (block_in c) c.sound c.single c.kept (home_most c) q (bucket_of k₀) live place follows k l ne ∙ sym (at_there (chain_from (next_in c)) (bucket_of k₀) _ k ne))
+      (cases_eq k (bucket_of k₀))
+
+  pub unlinked_order : MatchOption (body_of c k₀) (chain_from (link_at ls') ≡ chain_from (next_in c))
+      (λ _. (k : ℕ) → k < 64 → chain_from (link_at ls') k ≡ at (chain_from (next_in c)) (bucket_of k₀) (cut (node_of c k₀) (chain_from (next_in c) (bucket_of k₀))) k)
+  unlinked_order = match_some _ _ (body_of c k₀) (held_some c k₀ ∙ lt-ltb (node_of c k₀) 256 (let e = at_q in omega arith)) chain_after'

@@ -1,13 +1,8 @@
 -- A node taken out of the middle of a chain.
 use Rattle.std.proofs.Common.{◌≡◌, ℕ, ◌<◌, true, false, cond, eqb, List, [], ◌∷◌, length, sym, refl, ap, ◌∙◌, subst, ⊎_elim, arith}
 use Rattle.std.proofs.lemmas.Bool.{eqb-true, or_cases, or_left, or_right, both_ways, eq-eqb, cases_eq, cond-true, cond-false, ne_eqb}
-use Rattle.chains.specs.Links.{node_with, on}
+use Rattle.chains.specs.Links.{node_with, on, cut}
 use Rattle.chains.proofs.Walks.{Chained, Off, unique, tail, node_framed, node_past}
-
--- l without i
-unfoldable pub cut : ℕ → List ℕ → List ℕ
-cut i [] = []
-cut i (x ∷ l) = cond (eqb x i) l (x ∷ cut i l)
 
 pub cut_here : (i x : ℕ) (l : List ℕ) → x ≡ i → cut i (x ∷ l) ≡ l
 unfolding cut

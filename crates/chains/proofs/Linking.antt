@@ -4,10 +4,10 @@ use Rattle.std.proofs.Common.{◌≡◌, ℕ, ◌+◌, ◌<◌, ◌≤◌, true,
 use Rattle.std.proofs.lemmas.Bool.{cases_eq, cases_lt, and_from, eq-eqb, eqb-true, ne_eqb, both_ways, or_cases, cond-true, cond-false}
 use Rattle.words.specs.Layout.{bucket_of}
 use Rattle.words.specs.Points.{at}
-use Rattle.chains.specs.Links.{walk, chained, node_with, no_twice, on}
+use Rattle.chains.specs.Links.{walk, chained, node_with, no_twice, on, cut}
 use Rattle.chains.specs.Nodes.{chain_from, Holds, NoTwice, NoneLost, node_for}
 use Rattle.chains.proofs.Alone.{twice_framed, twice_cut, gone}
-use Rattle.chains.proofs.Cut.{cut, cut_here, on_here, on_there, on_rest, on_cut, on_not_off, before, framed2, bypass, node_cut}
+use Rattle.chains.proofs.Cut.{cut_here, on_here, on_there, on_rest, on_cut, on_not_off, before, framed2, bypass, node_cut}
 use Rattle.chains.proofs.Walks.{Chained, Off, opened, closed, whole, stepped, once, away, tail, framed, not_head, node_framed, node_here, node_past}
 
 pub at_here : {X : Type 0} (f : ℕ → X) (p : ℕ) (x : X) (q : ℕ) → q ≡ p → at f p x q ≡ x
@@ -111,13 +111,13 @@ module _ (nx hm bl : ℕ → ℕ) (sound : Holds nx hm) (single : NoTwice nx bl)
         (λ k l ne. subst (Fine k) (sym (head_other k l ne)) (settled push_next push_home k (nx (256 + k)) (chain_from nx k) (stay k l)))
         b (omega arith)
 
-    chain_b₀ : chain_from push_next b₀ ≡ i ∷ chain_from nx b₀
+    pub chain_b₀ : chain_from push_next b₀ ≡ i ∷ chain_from nx b₀
     chain_b₀ = ap (walk push_next 256) head_b₀ ∙ whole push_next push_home b₀ i (i ∷ chain_from nx b₀) longer
 
     chain_64 : chain_from push_next 64 ≡ free_step.0
     chain_64 = ap (walk push_next 256) head_64 ∙ whole push_next push_home 64 (nx i) free_step.0 shorter
 
-    chain_other : (b : ℕ) → b < 64 → (b ≡ b₀ → ⊥) → chain_from push_next b ≡ chain_from nx b
+    pub chain_other : (b : ℕ) → b < 64 → (b ≡ b₀ → ⊥) → chain_from push_next b ≡ chain_from nx b
     chain_other b lt ne = ap (walk push_next 256) (head_other b lt ne) ∙ whole push_next push_home b (nx (256 + b)) (chain_from nx b) (stay b lt)
 
     pub push_here : node_for push_next push_block block ≡ nx 320
@@ -267,13 +267,13 @@ module _ (nx hm bl : ℕ → ℕ) (sound : Holds nx hm) (single : NoTwice nx bl)
         (λ e. ⊎_elim (λ d. ne (omega arith)) (λ h. let l = (on_chain h).0 in omega arith) place)
         (λ e. omega arith)
 
-    chain_b : chain_from cut_next b ≡ cut j (chain_from nx b)
+    pub chain_b : chain_from cut_next b ≡ cut j (chain_from nx b)
     chain_b = whole cut_next cut_home b (cut_next (256 + b)) (cut j (chain_from nx b)) mine
 
     chain_free : chain_from cut_next 64 ≡ j ∷ chain_from nx 64
     chain_free = ap (walk cut_next 256) next_320 ∙ whole cut_next cut_home 64 j (j ∷ chain_from nx 64) freed
 
-    chain_k : (k : ℕ) → k < 64 → (k ≡ b → ⊥) → chain_from cut_next k ≡ chain_from nx k
+    pub chain_k : (k : ℕ) → k < 64 → (k ≡ b → ⊥) → chain_from cut_next k ≡ chain_from nx k
     chain_k k lt ne = ap (walk cut_next 256) (head_k k lt ne) ∙ whole cut_next cut_home k (nx (256 + k)) (chain_from nx k) (stays k (omega arith) ne)
 
     by_place : (P : ℕ → Type 0) → P b → P 64 → ((k : ℕ) → k < 64 → (k ≡ b → ⊥) → P k) → (k : ℕ) → k ≤ 64 → P k

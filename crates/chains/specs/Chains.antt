@@ -1,10 +1,11 @@
 -- What is held of each block.
-use Rattle.std.specs.Prelude.{◌≡◌, ℕ, ◌-◌, ◌^◌, ◌≤◌, ◌&&◌, ◌==◌, is_some, Some, None, Option, MatchOption, option_and_then, slice_index_or}
+use Rattle.std.specs.Prelude.{◌≡◌, ℕ, ◌-◌, ◌^◌, ◌≤◌, ◌<◌, ◌&&◌, ◌==◌, List, ◌∷◌, is_some, Some, None, Option, MatchOption, option_and_then, slice_index_or}
 use Rattle.std.specs.Option.{option_map}
 use Rattle.std.specs.List.{slice_get}
 use Rattle.words.specs.Layout.{bucket_of}
 use Rattle.words.specs.Points.{at}
 use Rattle.chains.specs.Counting.{how_many}
+use Rattle.chains.specs.Links.{cut}
 use Rattle.chains.specs.declared.chains.Chains.{Chains}
 use Rattle.chains.specs.declared.node.Body.{Body}
 use Rattle.chains.specs.declared.node.Found.{Found}
@@ -27,6 +28,22 @@ body_of c b = body_at c (node_of c b)
 -- the block of a node, where it is linked
 abbrev pub block_of_node : Chains → ℕ → Option ℕ
 block_of_node c i = option_map (λ b. b.number) (owner c.nodes i)
+
+-- the nodes of the chain k, from its head on
+abbrev pub chain_of : Chains → ℕ → List ℕ
+chain_of c k = chain_from (link_at c.links) k
+
+-- the chain k is l now, and every other is as it was
+abbrev pub ChainIs : Chains → ℕ → List ℕ → Chains → Type 0
+ChainIs c k l d = (j : ℕ) → j < 64 → chain_of d j ≡ at (chain_of c) k l j
+
+-- a node was put at the head of the chain of the block b, unless the block had one
+abbrev pub AtHead : Chains → ℕ → Chains → Type 0
+AtHead c b d = MatchOption (body_of c b) (ChainIs c (bucket_of b) (node_of d b ∷ chain_of c (bucket_of b)) d) (λ _. chain_of d ≡ chain_of c)
+
+-- the node of the block b was taken out of its chain, if the block had one
+abbrev pub TakenOut : Chains → ℕ → Chains → Type 0
+TakenOut c b d = MatchOption (body_of c b) (chain_of d ≡ chain_of c) (λ _. ChainIs c (bucket_of b) (cut (node_of c b) (chain_of c (bucket_of b))) d)
 
 -- how many nodes are on the chain of the bucket k: as many as blocks of that bucket have a node
 abbrev pub nodes_in : Chains → ℕ → ℕ

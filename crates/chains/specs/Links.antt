@@ -21,6 +21,11 @@ unfoldable pub on : ℕ → List ℕ → Bool
 on p [] = false
 on p (x ∷ l) = x == p || on p l
 
+-- l without the first i in it
+unfoldable pub cut : ℕ → List ℕ → List ℕ
+cut i [] = []
+cut i (x ∷ l) = cond (x == i) l (x ∷ cut i l)
+
 -- no block twice
 unfoldable pub no_twice : (ℕ → ℕ) → List ℕ → Bool
 no_twice block_at [] = true

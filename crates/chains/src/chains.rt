@@ -1,5 +1,5 @@
 // Blocks on nodes: 256 nodes in 64 chains, and those that are free in one more.
-ghost use Rattle.std.specs.Prelude.{◌≡◌, ℕ, ◌^◌, None, Some, MatchOption, MatchResult, length, slice_index_or};
+ghost use Rattle.std.specs.Prelude.{◌≡◌, ℕ, ◌^◌, None, Some, MatchOption, MatchResult, OnOk, length, slice_index_or};
 ghost use Rattle.words.specs.Points.{at};
 ghost use Rattle.chains.specs.Counting.{how_many};
 ghost use Rattle.chains.specs.Nodes.{Sound, Single, Kept, AllFree, FreeLink, is_linked, is_held};
@@ -47,7 +47,7 @@ fn free_links() -> [Option<u8>; 321]
 }
 
 impl Chains {
-    ghost use Rattle.chains.specs.Chains.{body_of, body_at, Leads, Finds, Puts, Writes, Nodes};
+    ghost use Rattle.chains.specs.Chains.{body_of, body_at, Leads, Finds, Puts, Writes, Nodes, chain_of, AtHead, TakenOut};
 
     // No block has a node.
     pub fn new() -> Chains
@@ -88,7 +88,8 @@ impl Chains {
 
     // Writes what a node holds; one that is free stays so.
     pub fn replace(&mut self, node: u8, body: Body)
-        ensures { Writes self.old node body self.new }
+        ensures held { Writes self.old node body self.new }
+        ensures order { chain_of self.new ≡ chain_of self.old }
     {
         let own = usize::from(node);
         let held = self.nodes[own];
@@ -100,9 +101,10 @@ impl Chains {
     // Writes what is held of the block, on a new node where it has none.
     #[tactic(auto, using(crate::proofs::Held::count_all, crate::proofs::Changes::all_linked))]
     pub fn insert(&mut self, block: Block, body: Body) -> Result<(), NoNode>
-        ensures { MatchResult result
+        ensures held { MatchResult result
             (λ x. Puts self.old block.number (Some body) self.new)
             (λ e. (body_of self.old block.number ≡ None) × Nodes self.old 256 × (self.new ≡ self.old)) }
+        ensures order { OnOk result (AtHead self.old block.number self.new) }
     {
         if let Some(found) = self.find(block) {
             self.replace(found.node, body);
@@ -117,6 +119,7 @@ impl Chains {
     pub fn remove(&mut self, block: Block) -> Option<Body>
         ensures answer { result ≡ body_of self.old block.number }
         ensures held { Puts self.old block.number None self.new }
+        ensures order { TakenOut self.old block.number self.new }
     {
         let way = self.way_to(block)?;
         let body = self.body(way.found.node);
@@ -145,7 +148,8 @@ impl Chains {
     fn push(&mut self, node: u8, block: Block, body: Body)
         requires absent { body_of self.old block.number ≡ None }
         requires free { slice_index_or self.old.links 320 None ≡ Some node }
-        ensures { Puts self.old block.number (Some body) self.new }
+        ensures held { Puts self.old block.number (Some body) self.new }
+        ensures order { AtHead self.old block.number self.new }
     {
         let own = usize::from(node);
         let head = HEADS + block.bucket();
@@ -161,7 +165,8 @@ impl Chains {
     // Unlinks the block's node.
     fn unlink(&mut self, block: Block, way: Way)
         requires { Leads self.old block.number way }
-        ensures { Puts self.old block.number None self.new }
+        ensures held { Puts self.old block.number None self.new }
+        ensures order { TakenOut self.old block.number self.new }
     {
         let own = usize::from(way.found.node);
         let rest = self.links[own];

@@ -41,7 +41,7 @@ invariant_of-self-in-Compact c =
     let give = c.give-in-Compact in
     let set = ap row_pages give.ensures.rows ∙ c.set.ensures.pages in
     let last = give.ensures.spare ∙ ap (λ v. v.items ++ c.args.row ∷ []) c.set.ensures.spare in
-    let puts = written s.chains c.args.node _ c.replace.new.self c.args.block.number c.requires.0 c.replace.ensures in
+    let puts = written s.chains c.args.node _ c.replace.new.self c.args.block.number c.requires.0 c.replace.ensures.held in
     let t = worded_row s c.args.block c.args.offset c.args.row c.args.to c.requires.1 give.new.self.rows set c.replace.new.self give.new.self.spare.items c.in-Compact.word (omega arith) puts
     (subst (λ rs. Shapes (Compact c.in-Compact.word) (row_pages rs c.args.row.number)) (sym give.ensures.rows) c.in-Compact.ensures) last in
     let k = kept s _ _ _ _ _ _ _ t in
@@ -69,7 +69,7 @@ returns-in-Compact c =
     let give = c.give-in-Compact in
     let set = ap row_pages give.ensures.rows ∙ c.set.ensures.pages in
     let last = give.ensures.spare ∙ ap (λ v. v.items ++ c.args.row ∷ []) c.set.ensures.spare in
-    let puts = written s.chains c.args.node _ c.replace.new.self c.args.block.number c.requires.0 c.replace.ensures in
+    let puts = written s.chains c.args.node _ c.replace.new.self c.args.block.number c.requires.0 c.replace.ensures.held in
     let t = worded_row s c.args.block c.args.offset c.args.row c.args.to c.requires.1 give.new.self.rows set c.replace.new.self give.new.self.spare.items c.in-Compact.word (omega arith) puts
     (subst (λ rs. Shapes (Compact c.in-Compact.word) (row_pages rs c.args.row.number)) (sym give.ensures.rows) c.in-Compact.ensures) last in
     sets s _ _ _ _ _ _ _ t

@@ -26,13 +26,13 @@ returns-in-Empty c =
 pub invariant_of-self-in-Compact : goal.invariant_of-self-in-Compact
 invariant_of-self-in-Compact c =
     let s = c.args.self.now in
-    let k = inserted_word s c.args.block c.args.offset c.args.word c.args.to c.requires c.insert.new.self c.in-Compact.grown (omega arith) c.in-Compact.ensures c.insert.result c.insert.ensures in
+    let k = inserted_word s c.args.block c.args.offset c.args.word c.args.to c.requires c.insert.new.self c.in-Compact.grown (omega arith) c.in-Compact.ensures c.insert.result c.insert.ensures.held in
     record { lent = k.lent; taken = k.taken; narrow = k.narrow; mixed = k.mixed }
 
 pub returns-in_err-insert-in-Compact : goal.returns-in_err-insert-in-Compact
 returns-in_err-insert-in-Compact c =
     let s = c.args.self.now in
-    let (none, full, same) = c.in_err-insert-in-Compact.ensures in
+    let (none, full, same) = c.in_err-insert-in-Compact.ensures.held in
     let h = shaped s c.args.block c.args.offset c.args.word c.args.to c.requires (Compact c.in-Compact.grown) c.in-Compact.ensures in
     let (o, l, t, e) = word_some c.in-Compact.grown (omega arith) in
     refused c.from_residual.result _ _ NoNode c.from_residual.ensures.1
@@ -41,7 +41,7 @@ returns-in_err-insert-in-Compact c =
 pub returns-in_ok-insert-in-Compact : goal.returns-in_ok-insert-in-Compact
 returns-in_ok-insert-in-Compact c =
     let s = c.args.self.now in
-    sets s _ _ _ _ _ _ _ (worded s c.args.block c.args.offset c.args.word c.args.to c.requires c.insert.new.self c.in-Compact.grown (omega arith) c.in_ok-insert-in-Compact.ensures c.in-Compact.ensures)
+    sets s _ _ _ _ _ _ _ (worded s c.args.block c.args.offset c.args.word c.args.to c.requires c.insert.new.self c.in-Compact.grown (omega arith) c.in_ok-insert-in-Compact.ensures.held c.in-Compact.ensures)
 
 pub returns-then-count-eq256 : goal.returns-then-count-eq256
 returns-then-count-eq256 c =
@@ -77,7 +77,7 @@ invariant_of-self-in-Mixed c =
       | else-is_none-via-else-is_none w ↦ (λ n e. some_body c.args.word w.if-is_none.ensures (sym c.requires ∙ n))
     ] in
     let t = inserted_row s c.args.block c.args.offset c.args.word c.args.to c.requires c.insert-in-Mixed.new.self c.take.new.self c.in-Some.number c.set.new.self c.in-Mixed.ensures last rows
-    (row_made (word_pages c.args.word) c.args.offset.number c.args.to c.of_word-row.result c.set.new.self c.of_word-row.ensures c.set.ensures) room c.insert-in-Mixed.result c.insert-in-Mixed.ensures in
+    (row_made (word_pages c.args.word) c.args.offset.number c.args.to c.of_word-row.result c.set.new.self c.of_word-row.ensures c.set.ensures) room c.insert-in-Mixed.result c.insert-in-Mixed.ensures.held in
     let k = kept s _ _ _ _ _ _ _ t in
     record { lent = k.lent; taken = k.taken; narrow = k.narrow; mixed = k.mixed }
 
@@ -86,4 +86,4 @@ returns-in_ok-insert-in-Mixed c =
     let s = c.args.self.now in
     let (last, rows) = c.in-Some.ensures in
     sets s _ _ _ _ _ _ _ (given_row s c.args.block c.args.offset c.args.word c.args.to c.requires c.insert-in-Mixed.new.self c.take.new.self.rows c.take.new.self.spare.items c.in-Some.number c.set.new.self
-    c.in_ok-insert-in-Mixed.ensures c.in-Mixed.ensures last rows (row_made (word_pages c.args.word) c.args.offset.number c.args.to c.of_word-row.result c.set.new.self c.of_word-row.ensures c.set.ensures))
+    c.in_ok-insert-in-Mixed.ensures.held c.in-Mixed.ensures last rows (row_made (word_pages c.args.word) c.args.offset.number c.args.to c.of_word-row.result c.set.new.self c.of_word-row.ensures c.set.ensures))

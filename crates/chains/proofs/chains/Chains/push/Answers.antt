@@ -1,5 +1,5 @@
 use Rattle.std.proofs.Common.{◌≡◌, ◌<◌, length, ◌∙◌, arith, length-set}
-use Rattle.chains.proofs.Changes.{pushed_sound, pushed_single, pushed_kept, push_room, pushed_counted, pushed_held, pushed_puts}
+use Rattle.chains.proofs.Changes.{pushed_sound, pushed_single, pushed_kept, push_room, pushed_counted, pushed_held, pushed_puts, pushed_order}
 use Rattle.chains.proofs.chains.Chains.push.Goals as goal
 
 pub overflow_add-self : goal.overflow_add-self
@@ -33,7 +33,12 @@ invariant_of-self c =
       held = omega arith;
     }
 
-pub returns : goal.returns
-returns c =
+pub returns-clause-held : goal.returns-clause-held
+returns-clause-held c =
     let r = c.requires in
     pushed_puts c.args.self.now c.args.block c.of.result c.args.body c.bucket-head.result _ c.args.node c.of.ensures.0 c.of.ensures.1 c.bucket-head.ensures c.from-own.ensures r.absent r.free (omega arith) (omega arith)
+
+pub returns-clause-order : goal.returns-clause-order
+returns-clause-order c =
+    let r = c.requires in
+    pushed_order c.args.self.now c.args.block c.of.result c.args.body c.bucket-head.result _ c.args.node c.of.ensures.0 c.of.ensures.1 c.bucket-head.ensures c.from-own.ensures r.absent r.free (omega arith) (omega arith)

@@ -21,13 +21,13 @@ invariant_of-self c =
       held = replaced_held s i _ n y (omega arith) b h some;
     }
 
-pub returns-then-is_some : goal.returns-then-is_some
-returns-then-is_some c =
+pub returns-then-is_some-clause-held : goal.returns-then-is_some-clause-held
+returns-then-is_some-clause-held c =
     let e = c.from-own.ensures in
     let (b, h) = c.of.ensures in
     replaced_puts c.args.self.now c.from-own.result _ c.of.result c.args.body (omega arith) b h (ap is_some (sym c.body.ensures) ∙ sym c.is_some.ensures ∙ c.if-is_some.true) c.args.node (omega arith)
 
-pub returns-else-is_some : goal.returns-else-is_some
-returns-else-is_some c =
+pub returns-else-is_some-clause-held : goal.returns-else-is_some-clause-held
+returns-else-is_some-clause-held c =
     let e = c.from-own.ensures in
     free_writes c.args.self.now c.from-own.result _ c.args.body c.args.node e (omega arith) (ap is_some (sym c.body.ensures) ∙ sym c.is_some.ensures ∙ c.if-is_some.false)

@@ -1,6 +1,6 @@
 use Rattle.std.proofs.Common.{◌≡◌, length, ◌∙◌, arith, length-set}
 use Rattle.chains.proofs.Held.{linked_small}
-use Rattle.chains.proofs.Changes.{unlinked_sound, unlinked_single, unlinked_kept, unlinked_counted, unlinked_held, unlinked_puts}
+use Rattle.chains.proofs.Changes.{unlinked_sound, unlinked_single, unlinked_kept, unlinked_counted, unlinked_held, unlinked_puts, unlinked_order}
 use Rattle.chains.proofs.chains.Chains.unlink.Goals as goal
 
 pub overflow_sub-self : goal.overflow_sub-self
@@ -30,9 +30,16 @@ invariant_of-self c =
       held = omega arith;
     }
 
-pub returns : goal.returns
-returns c =
+pub returns-clause-held : goal.returns-clause-held
+returns-clause-held c =
     let s = c.args.self.now in
     let r = c.requires in
     let small = linked_small s _ _ r.found.block in
     unlinked_puts s c.args.block c.args.way _ r c.from-own.ensures small (omega arith)
+
+pub returns-clause-order : goal.returns-clause-order
+returns-clause-order c =
+    let s = c.args.self.now in
+    let r = c.requires in
+    let small = linked_small s _ _ r.found.block in
+    unlinked_order s c.args.block c.args.way _ r c.from-own.ensures small (omega arith)
