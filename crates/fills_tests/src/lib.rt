@@ -25,7 +25,11 @@ mod tests {
         }
         assert_eq!(rt; fills.count(), 32);
         assert_eq!(rt; fills.add(fill(32)), Err(AddFault::TooMany));
-        assert_eq!(rt; fills.add(fill(7)), Err(AddFault::Waiting), "before the other");
+        assert_eq!(rt;
+            fills.add(fill(7)),
+            Err(AddFault::Waiting),
+            "before the other"
+        );
         assert_eq!(rt; fills.remove(page(7), 0x1007), Ok(()));
         assert_eq!(rt; fills.add(fill(32)), Ok(()));
         assert_eq!(rt; fills.find(page(32)), Some(0x1020));

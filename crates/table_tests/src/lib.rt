@@ -3,7 +3,7 @@
 
 #[cfg(test)]
 mod tests {
-    use table::{replay, Call, Census, Event, MapFault, NotMapped, PageTable, ProtectFault};
+    use table::{Call, Census, Event, MapFault, NotMapped, PageTable, ProtectFault, replay};
     use words::{Page, Translation, Word};
 
     fn page(number: u64) -> Page {
@@ -53,7 +53,11 @@ mod tests {
         assert_eq!(rt; table.census(), census(1, 0, 16));
         assert_eq!(rt; table.protect(page(0x41), 1), Ok(3));
         assert_eq!(rt; walked(&table, 0x41), (2, 0x8000_0000_0100_1001, 1));
-        assert_eq!(rt; walked(&table, 0x42), (2, 0x8000_0000_0100_2003, 1), "its neighbour");
+        assert_eq!(rt;
+            walked(&table, 0x42),
+            (2, 0x8000_0000_0100_2003, 1),
+            "its neighbour"
+        );
         assert_eq!(rt; table.census(), census(1, 1, 16));
         assert_eq!(rt; table.protect(page(0x41), 3), Ok(1));
         assert_eq!(rt; walked(&table, 0x41), (1, 0xFFFF_0000_0100_0003, 1));
@@ -80,7 +84,11 @@ mod tests {
         assert_eq!(rt; table.census(), census(1, 1, 1));
         assert_eq!(rt; table.map(page(0x42), to(0x2002, 3)), Ok(()));
         assert_eq!(rt; table.unmap(page(0x41)), Ok(to(0x1000, 3)));
-        assert_eq!(rt; walked(&table, 0x42), (1, 0x0004_0000_0200_0003, 1), "compact now");
+        assert_eq!(rt;
+            walked(&table, 0x42),
+            (1, 0x0004_0000_0200_0003, 1),
+            "compact now"
+        );
         assert_eq!(rt; table.census(), census(1, 0, 1));
     }
 
@@ -89,9 +97,18 @@ mod tests {
         let mut table = PageTable::new();
         assert_eq!(rt; table.map(page(0x41), to(0x1001, 4095)), Ok(()));
         assert_eq!(rt; table.map(page(0x41), to(0x1000, 3)), Err(MapFault::Mapped));
-        assert_eq!(rt; table.protect(page(0x41), 4096), Err(ProtectFault::BadAttributes));
-        assert_eq!(rt; table.protect(page(0x42), 4096), Err(ProtectFault::BadAttributes));
-        assert_eq!(rt; table.protect(page(0x42), 4095), Err(ProtectFault::NotMapped));
+        assert_eq!(rt;
+            table.protect(page(0x41), 4096),
+            Err(ProtectFault::BadAttributes)
+        );
+        assert_eq!(rt;
+            table.protect(page(0x42), 4096),
+            Err(ProtectFault::BadAttributes)
+        );
+        assert_eq!(rt;
+            table.protect(page(0x42), 4095),
+            Err(ProtectFault::NotMapped)
+        );
         assert_eq!(rt; table.unmap(page(0x42)), Err(NotMapped));
         assert_eq!(rt; table.walk(page(0x51)).is_err(), true);
         assert_eq!(rt; table.lookup(page(0x41)), Some(to(0x1001, 4095)));
@@ -103,14 +120,29 @@ mod tests {
         let mut table = PageTable::new();
         for block in 0..256u16 {
             let number = u64::from(block) * 16;
-            assert_eq!(rt; table.map(page(number), to(u32::from(block) * 16, 3)), Ok(()));
+            assert_eq!(rt;
+                table.map(page(number), to(u32::from(block) * 16, 3)),
+                Ok(())
+            );
         }
         assert_eq!(rt; table.census(), census(256, 0, 256));
         assert_eq!(rt; table.map(page(4096), to(4096, 3)), Err(MapFault::NoNode));
-        assert_eq!(rt; table.map(page(4096), to(1, 3)), Err(MapFault::NoNode), "before rows");
-        assert_eq!(rt; table.map(page(1), to(1, 3)), Ok(()), "a page of a used block");
+        assert_eq!(rt;
+            table.map(page(4096), to(1, 3)),
+            Err(MapFault::NoNode),
+            "before rows"
+        );
+        assert_eq!(rt;
+            table.map(page(1), to(1, 3)),
+            Ok(()),
+            "a page of a used block"
+        );
         assert_eq!(rt; table.unmap(page(16)), Ok(to(16, 3)));
-        assert_eq!(rt; table.map(page(4096), to(4096, 3)), Ok(()), "the node that came free");
+        assert_eq!(rt;
+            table.map(page(4096), to(4096, 3)),
+            Ok(()),
+            "the node that came free"
+        );
         assert_eq!(rt; table.census(), census(256, 0, 257));
     }
 
@@ -119,18 +151,37 @@ mod tests {
         let mut table = PageTable::new();
         for block in 0..128u16 {
             let number = u64::from(block) * 16;
-            assert_eq!(rt; table.map(page(number), to(u32::from(block) * 16 + 1, 3)), Ok(()));
+            assert_eq!(rt;
+                table.map(page(number), to(u32::from(block) * 16 + 1, 3)),
+                Ok(())
+            );
         }
         assert_eq!(rt; table.census(), census(128, 128, 128));
         assert_eq!(rt; table.map(page(2048), to(2049, 3)), Err(MapFault::NoRow));
-        assert_eq!(rt; table.map(page(2048), to(2048, 3)), Ok(()), "properly placed");
-        assert_eq!(rt; table.map(page(2049), to(2049, 1)), Err(MapFault::NoRow), "other attributes");
+        assert_eq!(rt;
+            table.map(page(2048), to(2048, 3)),
+            Ok(()),
+            "properly placed"
+        );
+        assert_eq!(rt;
+            table.map(page(2049), to(2049, 1)),
+            Err(MapFault::NoRow),
+            "other attributes"
+        );
         assert_eq!(rt; table.map(page(2049), to(2049, 3)), Ok(()));
         assert_eq!(rt; table.protect(page(2049), 1), Err(ProtectFault::NoRow));
         assert_eq!(rt; table.protect(page(2049), 3), Ok(3), "stays compact");
-        assert_eq!(rt; table.map(page(1), to(77, 3)), Ok(()), "a block that has a row");
+        assert_eq!(rt;
+            table.map(page(1), to(77, 3)),
+            Ok(()),
+            "a block that has a row"
+        );
         assert_eq!(rt; table.unmap(page(16)), Ok(to(17, 3)));
-        assert_eq!(rt; table.protect(page(2049), 1), Ok(3), "the row that came free");
+        assert_eq!(rt;
+            table.protect(page(2049), 1),
+            Ok(3),
+            "the row that came free"
+        );
         assert_eq!(rt; table.census(), census(128, 128, 130));
     }
 
@@ -174,11 +225,22 @@ mod tests {
         }
         assert_eq!(rt; table.census(), census(100, 100, 100));
         assert_eq!(rt; walked(&table, first_page(0)).2, 100, "the end");
-        assert_eq!(rt; table.unmap(page(first_page(50))).is_ok(), true, "in the middle");
+        assert_eq!(rt;
+            table.unmap(page(first_page(50))).is_ok(),
+            true,
+            "in the middle"
+        );
         assert_eq!(rt; walked(&table, first_page(0)).2, 99);
         assert_eq!(rt; walked(&table, first_page(51)).2, 49, "before it");
-        assert_eq!(rt; table.map(page(first_page(50)), to(0x2000, 3)), Ok(()), "linked again");
-        assert_eq!(rt; walked(&table, first_page(50)), (1, 0x0001_0000_0200_0003, 1));
+        assert_eq!(rt;
+            table.map(page(first_page(50)), to(0x2000, 3)),
+            Ok(()),
+            "linked again"
+        );
+        assert_eq!(rt;
+            walked(&table, first_page(50)),
+            (1, 0x0001_0000_0200_0003, 1)
+        );
         assert_eq!(rt; table.census(), census(100, 99, 100));
         for n in 0..100u64 {
             assert_eq!(rt; table.unmap(page(first_page(n))).is_ok(), true);
@@ -188,7 +250,10 @@ mod tests {
 
     #[test]
     fn calls_are_replayed(rt: HostRuntime) {
-        let event = |call: Call| Event { call, refused: false };
+        let event = |call: Call| Event {
+            call,
+            refused: false,
+        };
         let mut events = [
             event(Call::Map(page(0x41), to(0x1001, 3))),
             event(Call::Map(page(0x41), to(0x1000, 3))),
