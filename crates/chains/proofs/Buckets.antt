@@ -7,7 +7,7 @@ use Rattle.words.specs.Points.{at}
 use Rattle.words.specs.declared.address.Block.{Block}
 use Rattle.chains.specs.declared.chains.Chains.{Chains}
 use Rattle.chains.specs.Blocks.{block_number}
-use Rattle.chains.specs.Chains.{body_of, node_of, nodes_in}
+use Rattle.chains.specs.Chains.{nodes_of, body_of, node_of, nodes_in}
 use Rattle.chains.specs.Counting.{how_many}
 use Rattle.chains.specs.Links.{node_with, no_twice}
 use Rattle.chains.specs.Nodes.{owner, is_linked, chain_from}
@@ -40,7 +40,7 @@ blocks_on nx hm bl n k i (x ∷ l) small (e, lt, hb, r) s =
 
 module _ (c : Chains) (k : ℕ) (lt : k < 64) where
   block_small : (i : ℕ) → block_in c i < 2 ^ 48
-  block_small i = each (owner c.nodes i)
+  block_small i = each (owner (nodes_of c) i)
     where
       each : (o : Option Block) → block_number o < 2 ^ 48
       each (Some b) = b.within
@@ -83,4 +83,4 @@ no_body_past c d g = no_body c d (⊎_elim
 
 -- at most as many blocks have a node as there are nodes
 pub held_most : (c : Chains) → how_many (λ b. is_some (body_of c b)) (2 ^ 48) ≤ 256
-held_most c = let e = count_all c in let f = c.counted in let m = many_most (is_linked c.nodes) 256 in omega arith
+held_most c = let e = count_all c in let f = c.counted in let m = many_most (is_linked (nodes_of c)) 256 in omega arith

@@ -11,13 +11,12 @@ use Rattle.words.specs.declared.address.Block.{Block}
 use Rattle.chains.specs.declared.chains.Chains.{Chains}
 use Rattle.chains.specs.declared.node.Body.{Body}
 use Rattle.chains.specs.declared.node.Content.TheVariants.{Free}
-use Rattle.chains.specs.declared.node.Node.{Node}
+use Rattle.chains.specs.Contents.{Node, body_in, owner_in}
 use Rattle.chains.specs.declared.node.Way.{Way}
-use Rattle.chains.specs.Chains.{node_of, body_of, block_of_node, Leads}
+use Rattle.chains.specs.Chains.{nodes_of, node_of, body_of, block_of_node, Leads}
 use Rattle.chains.specs.Counting.{how_many}
 use Rattle.chains.specs.Links.{on, cut}
 use Rattle.chains.specs.Blocks.{block_number}
-use Rattle.chains.specs.Contents.{body_in, owner_in}
 use Rattle.chains.specs.Nodes.{link_number, link_at, owner, is_linked, block_at, home_of, home_at, chain_from, node_for, is_held, Sound, Single, Kept, Holds, NoTwice, NoneLost}
 use Rattle.chains.proofs.Counts.{one, many_at, many_all, many_less}
 use Rattle.chains.proofs.Cut.{on_not_off}
@@ -58,33 +57,30 @@ unowned None f = refl
 
 -- a body is written on the node i
 module _ (c : Chains) (i : ℕ) (n : Node) (l : i < 256) where
-  apart : (b : ℕ) → (node_of c b ≡ i → ⊥) → bodies (set c.nodes i n) (node_of c b) ≡ body_of c b
-  apart b ne = let w = c.wide in ap (λ f. f (node_of c b)) (bodies_set c.nodes i n (omega arith)) ∙ at_there (bodies c.nodes) i (body_in n) (node_of c b) ne
+  apart : (b : ℕ) → (node_of c b ≡ i → ⊥) → bodies (set (nodes_of c) i n) (node_of c b) ≡ body_of c b
+  apart b ne = let w = c.wide in ap (λ f. f (node_of c b)) (bodies_set (nodes_of c) i n (omega arith)) ∙ at_there (bodies (nodes_of c)) i (body_in n) (node_of c b) ne
 
-  pub rewritten : MatchOption (block_of_node c i) ((λ b. bodies (set c.nodes i n) (node_of c b)) ≡ body_of c) (λ d. (λ b. bodies (set c.nodes i n) (node_of c b)) ≡ at (body_of c) d (body_in n))
+  pub rewritten : MatchOption (block_of_node c i) ((λ b. bodies (set (nodes_of c) i n) (node_of c b)) ≡ body_of c) (λ d. (λ b. bodies (set (nodes_of c) i n) (node_of c b)) ≡ at (body_of c) d (body_in n))
   rewritten = ⊎_elim
-      (λ t. subst (λ o. MatchOption o ((λ b. bodies (set c.nodes i n) (node_of c b)) ≡ body_of c) (λ d. (λ b. bodies (set c.nodes i n) (node_of c b)) ≡ at (body_of c) d (body_in n))) (sym (owned (owner c.nodes i) t)) (fun_ext (λ b. ⊎_elim
+      (λ t. subst (λ o. MatchOption o ((λ b. bodies (set (nodes_of c) i n) (node_of c b)) ≡ body_of c) (λ d. (λ b. bodies (set (nodes_of c) i n) (node_of c b)) ≡ at (body_of c) d (body_in n))) (sym (owned (owner (nodes_of c) i) t)) (fun_ext (λ b. ⊎_elim
       (λ e. let w = c.wide in
-      ap (λ f. f (node_of c b)) (bodies_set c.nodes i n (omega arith)) ∙ at_here (bodies c.nodes) i (body_in n) (node_of c b) (ap (node_of c) e ∙ block_of_linked c i l t)
+      ap (λ f. f (node_of c b)) (bodies_set (nodes_of c) i n (omega arith)) ∙ at_here (bodies (nodes_of c)) i (body_in n) (node_of c b) (ap (node_of c) e ∙ block_of_linked c i l t)
       ∙ sym (at_here (body_of c) (block_in c i) (body_in n) b e))
       (λ ne. apart b (λ e. ne (sym (node_of_block c b (omega arith)).1 ∙ ap (block_in c) e)) ∙ sym (at_there (body_of c) (block_in c i) (body_in n) b ne))
       (cases_eq b (block_in c i)))))
-      (λ f. subst (λ o. MatchOption o ((λ b. bodies (set c.nodes i n) (node_of c b)) ≡ body_of c) (λ d. (λ b. bodies (set c.nodes i n) (node_of c b)) ≡ at (body_of c) d (body_in n))) (sym (unowned (owner c.nodes i) f))
-      (fun_ext (λ b. apart b (λ e. both_ways _ f (ap (is_linked c.nodes) (sym e) ∙ (node_of_block c b (omega arith)).0)))))
-      (cases_Bool (is_linked c.nodes i))
+      (λ f. subst (λ o. MatchOption o ((λ b. bodies (set (nodes_of c) i n) (node_of c b)) ≡ body_of c) (λ d. (λ b. bodies (set (nodes_of c) i n) (node_of c b)) ≡ at (body_of c) d (body_in n))) (sym (unowned (owner (nodes_of c) i) f))
+      (fun_ext (λ b. apart b (λ e. both_ways _ f (ap (is_linked (nodes_of c)) (sym e) ∙ (node_of_block c b (omega arith)).0)))))
+      (cases_Bool (is_linked (nodes_of c) i))
 
 -- a node that is not free is written, and its block is left
-module _ (c : Chains) (i : ℕ) (d n : Node) (y : Body) (l : i < 256) (block : n.block ≡ (get_or c.nodes i d).block) (has : body_in n ≡ Some y)
-    (some : is_some (body_in (get_or c.nodes i d)) ≡ true) where
-  abbrev ms : List Node
-  ms = set c.nodes i n
-
-  owners : owner ms ≡ owner c.nodes
+module _ (c : Chains) (i : ℕ) (d n : Node) (y : Body) (l : i < 256) (block : n.block ≡ (get_or (nodes_of c) i d).block) (has : body_in n ≡ Some y)
+    (some : is_some (body_in (get_or (nodes_of c) i d)) ≡ true) (ms : List Node) (is : ms ≡ set (nodes_of c) i n) where
+  owners : owner ms ≡ owner (nodes_of c)
   owners = let w = c.wide in
-      owner_set c.nodes i n (omega arith)
-      ∙ at_same (owner c.nodes) i (owner_in n) (ap (option_and_then owner_in) (slice_get-get_or c.nodes i d (omega arith)) ∙ owner_of _ some ∙ ap Some (sym block) ∙ sym (owner_of n (ap is_some has)))
+      ap owner is ∙ owner_set (nodes_of c) i n (omega arith)
+      ∙ at_same (owner (nodes_of c)) i (owner_in n) (ap (option_and_then owner_in) (slice_get-get_or (nodes_of c) i d (omega arith)) ∙ owner_of _ some ∙ ap Some (sym block) ∙ sym (owner_of n (ap is_some has)))
 
-  homes_left : home_at ms ≡ home_at c.nodes
+  homes_left : home_at ms ≡ home_at (nodes_of c)
   homes_left = ap (λ f. home_of (λ k. block_number (f k)) (λ k. is_some (f k))) owners
 
   pub replaced_sound : Sound c.links ms
@@ -105,15 +101,15 @@ module _ (c : Chains) (i : ℕ) (d n : Node) (y : Body) (l : i < 256) (block : n
   pub replaced_puts : (j : ℕ) → i ≡ j → MatchOption (block_of_node c j) ((λ b. bodies ms (node_for (next_in c) (block_at ms) b)) ≡ body_of c) (λ k. (λ b. bodies ms (node_for (next_in c) (block_at ms) b)) ≡ at (body_of c) k (Some y))
   replaced_puts j e = subst (λ h. MatchOption (block_of_node c h) ((λ b. bodies ms (node_for (next_in c) (block_at ms) b)) ≡ body_of c) (λ k. (λ b. bodies ms (node_for (next_in c) (block_at ms) b)) ≡ at (body_of c) k (Some y))) e
       (subst (λ f. MatchOption (block_of_node c i) ((λ b. bodies ms (node_for (next_in c) (λ k. block_number (f k)) b)) ≡ body_of c) (λ k. (λ b. bodies ms (node_for (next_in c) (λ h. block_number (f h)) b)) ≡ at (body_of c) k (Some y))) (sym owners)
-      (subst (λ o. MatchOption (block_of_node c i) ((λ b. bodies ms (node_of c b)) ≡ body_of c) (λ k. (λ b. bodies ms (node_of c b)) ≡ at (body_of c) k o)) has (rewritten c i n l)))
+      (subst (λ o. MatchOption (block_of_node c i) ((λ b. bodies ms (node_of c b)) ≡ body_of c) (λ k. (λ b. bodies ms (node_of c b)) ≡ at (body_of c) k o)) has (subst (λ z. MatchOption (block_of_node c i) ((λ b. bodies z (node_of c b)) ≡ body_of c) (λ k. (λ b. bodies z (node_of c b)) ≡ at (body_of c) k (body_in n))) (sym is) (rewritten c i n l))))
 
 -- a free node has no block
-pub free_writes : (c : Chains) (i : ℕ) (d : Node) (y : Body) (j : ℕ) → i ≡ j → i < 256 → is_some (body_in (get_or c.nodes i d)) ≡ false → MatchOption (block_of_node c j) (body_of c ≡ body_of c) (λ k. body_of c ≡ at (body_of c) k (Some y))
+pub free_writes : (c : Chains) (i : ℕ) (d : Node) (y : Body) (j : ℕ) → i ≡ j → i < 256 → is_some (body_in (get_or (nodes_of c) i d)) ≡ false → MatchOption (block_of_node c j) (body_of c ≡ body_of c) (λ k. body_of c ≡ at (body_of c) k (Some y))
 free_writes c i d y j e l f =
     let w = c.wide in
     subst (λ h. MatchOption (block_of_node c h) (body_of c ≡ body_of c) (λ k. body_of c ≡ at (body_of c) k (Some y))) e
     (subst (λ o. MatchOption o (body_of c ≡ body_of c) (λ k. body_of c ≡ at (body_of c) k (Some y)))
-    (sym (unowned (owner c.nodes i) (sym (has_body (slice_get c.nodes i)) ∙ ap (λ o. is_some (option_and_then body_in o)) (slice_get-get_or c.nodes i d (omega arith)) ∙ f))) refl)
+    (sym (unowned (owner (nodes_of c) i) (sym (has_body (slice_get (nodes_of c) i)) ∙ ap (λ o. is_some (option_and_then body_in o)) (slice_get-get_or (nodes_of c) i d (omega arith)) ∙ f))) refl)
 
 -- three links are written
 three : (ls : List (Option ℕ)) (i j k : ℕ) (a b d : Option ℕ) → i < length ls → j < length ls → k < length ls
@@ -126,23 +122,20 @@ three ls i j k a b d x y z =
 
 -- the free nodes have run out: every node is linked
 pub all_linked : (c : Chains) → get_or c.links 320 None ≡ None → c.count ≡ 256
-all_linked c none = let g : 256 ≤ next_in c 320 = (let e = ap link_number none in omega arith) in c.counted ∙ many_all (is_linked c.nodes) 256 (λ i l. ⊎_elim
+all_linked c none = let g : 256 ≤ next_in c 320 = (let e = ap link_number none in omega arith) in c.counted ∙ many_all (is_linked (nodes_of c)) 256 (λ i l. ⊎_elim
     (λ t. t)
     (λ f. absurd (on_not_off i [] (subst (λ k. on i k ≡ true) (over (next_in c) (home_in c) 64 (next_in c 320) (c.sound 64 (omega arith)) g)
-    (subst (λ k. on i (chain_from (next_in c) k) ≡ true) (cond-false (is_linked c.nodes i) (bucket_of (block_in c i)) 64 f) (c.kept i l))) tt))
-    (cases_Bool (is_linked c.nodes i)))
+    (subst (λ k. on i (chain_from (next_in c) k) ≡ true) (cond-false (is_linked (nodes_of c) i) (bucket_of (block_in c i)) 64 f) (c.kept i l))) tt))
+    (cases_Bool (is_linked (nodes_of c) i)))
 
 -- the first free node is linked for the block; i and j are its number
 module _ (c : Chains) (block : Block) (n : Node) (y : Body) (h i j : ℕ) (of_block : n.block ≡ block) (has : body_in n ≡ Some y) (bucket : h ≡ bucket_of block.number) (same : i ≡ j) (absent : body_of c block.number ≡ None)
-    (free : get_or c.links 320 None ≡ Some j) (room : j < 256) (wl : length c.links ≡ 321) where
+    (free : get_or c.links 320 None ≡ Some j) (room : j < 256) (wl : length c.links ≡ 321) (ns : List Node) (is : ns ≡ set (nodes_of c) i n) where
   abbrev b₀ : ℕ
   b₀ = block.number
 
   abbrev ls : List (Option ℕ)
   ls = set (set (set c.links i (get_or c.links (256 + h) None)) 320 (get_or c.links i None)) (256 + h) (Some j)
-
-  abbrev ns : List Node
-  ns = set c.nodes i n
 
   of_new : owner_in n ≡ Some block
   of_new = owner_of n (ap is_some has) ∙ ap Some of_block
@@ -156,7 +149,7 @@ module _ (c : Chains) (block : Block) (n : Node) (y : Body) (h i j : ℕ) (of_bl
   left : next_in c 320 < 256
   left = let e = first in omega arith
 
-  in_nodes : i < length c.nodes
+  in_nodes : i < length (nodes_of c)
   in_nodes = let w = c.wide in omega arith
 
   abbrev nx : ℕ → ℕ
@@ -175,13 +168,13 @@ module _ (c : Chains) (block : Block) (n : Node) (y : Body) (h i j : ℕ) (of_bl
       ∙ ap (λ k. at (at (at (next_in c) k (next_in c (256 + bucket_of b₀))) 320 (next_in c k)) (256 + bucket_of b₀) k) (sym first)
 
   blocks : block_at ns ≡ bl
-  blocks = blocks_set c.nodes i n in_nodes ∙ ap (λ o. at (block_in c) i (block_number o)) of_new ∙ ap (λ k. at (block_in c) k b₀) (sym first)
+  blocks = ap block_at is ∙ blocks_set (nodes_of c) i n in_nodes ∙ ap (λ o. at (block_in c) i (block_number o)) of_new ∙ ap (λ k. at (block_in c) k b₀) (sym first)
 
-  flags : is_linked ns ≡ at (is_linked c.nodes) i true
-  flags = linked_set c.nodes i n in_nodes ∙ ap (λ o. at (is_linked c.nodes) i (is_some o)) of_new
+  flags : is_linked ns ≡ at (is_linked (nodes_of c)) i true
+  flags = ap is_linked is ∙ linked_set (nodes_of c) i n in_nodes ∙ ap (λ o. at (is_linked (nodes_of c)) i (is_some o)) of_new
 
   homes : home_at ns ≡ hm
-  homes = homes_set c.nodes i n in_nodes ∙ ap (λ o. at (home_in c) i (cond (is_some o) (bucket_of (block_number o)) 64)) of_new ∙ ap (λ k. at (home_in c) k (bucket_of b₀)) (sym first)
+  homes = ap home_at is ∙ homes_set (nodes_of c) i n in_nodes ∙ ap (λ o. at (home_in c) i (cond (is_some o) (bucket_of (block_number o)) 64)) of_new ∙ ap (λ k. at (home_in c) k (bucket_of b₀)) (sym first)
 
   pub pushed_sound : Sound ls ns
   pushed_sound = subst (λ n. Holds n (home_at ns)) (sym links) (subst (Holds nx) (sym homes)
@@ -205,16 +198,16 @@ module _ (c : Chains) (block : Block) (n : Node) (y : Body) (h i j : ℕ) (of_bl
   node_other b ne = node_after b ∙ push_others (next_in c) (home_in c) (block_in c) c.sound c.single c.kept (home_most c) b₀ none left b ne
 
   -- the node was free
-  was_free : is_linked c.nodes i ≡ false
-  was_free = ap (is_linked c.nodes) (sym first) ∙ no_flag_of_home c (next_in c 320) (step (next_in c) (home_in c) 64 (next_in c 320) (c.sound 64 (omega arith)) left).4
+  was_free : is_linked (nodes_of c) i ≡ false
+  was_free = ap (is_linked (nodes_of c)) (sym first) ∙ no_flag_of_home c (next_in c 320) (step (next_in c) (home_in c) 64 (next_in c 320) (c.sound 64 (omega arith)) left).4
 
   pub push_room : c.count < 256
-  push_room = let e = c.counted in let l = many_less (is_linked c.nodes) i 256 (omega arith) was_free in omega arith
+  push_room = let e = c.counted in let l = many_less (is_linked (nodes_of c)) i 256 (omega arith) was_free in omega arith
 
   pub pushed_counted : c.count + 1 ≡ how_many (is_linked ns) 256
   pushed_counted =
       let e = c.counted in
-      let m = many_at (is_linked c.nodes) i true 256 (omega arith) in
+      let m = many_at (is_linked (nodes_of c)) i true 256 (omega arith) in
       let f = ap one was_free in
       let g = ap (λ t. how_many t 256) flags in
       omega arith
@@ -222,23 +215,23 @@ module _ (c : Chains) (block : Block) (n : Node) (y : Body) (h i j : ℕ) (of_bl
   pub pushed_held : c.count + 1 ≡ how_many (is_held ls ns) (2 ^ 48)
   pushed_held =
       let e = c.held in
-      let m = many_at (is_held c.links c.nodes) b₀ true (2 ^ 48) block.within in
+      let m = many_at (is_held c.links (nodes_of c)) b₀ true (2 ^ 48) block.within in
       let f = ap one (le-ltb (node_of c b₀) 256 (let a = none in omega arith)) in
       let g = ap (λ t. how_many t (2 ^ 48)) (fun_ext holds) in
       omega arith
     where
-      holds : (b : ℕ) → is_held ls ns b ≡ at (is_held c.links c.nodes) b₀ true b
+      holds : (b : ℕ) → is_held ls ns b ≡ at (is_held c.links (nodes_of c)) b₀ true b
       holds b = ⊎_elim
-          (λ e. ap (λ x. ltb x 256) (ap (node_for (link_at ls) (block_at ns)) e ∙ node_here) ∙ lt-ltb i 256 (omega arith) ∙ sym (at_here (is_held c.links c.nodes) b₀ true b e))
-          (λ ne. ap (λ x. ltb x 256) (node_other b ne) ∙ sym (at_there (is_held c.links c.nodes) b₀ true b ne))
+          (λ e. ap (λ x. ltb x 256) (ap (node_for (link_at ls) (block_at ns)) e ∙ node_here) ∙ lt-ltb i 256 (omega arith) ∙ sym (at_here (is_held c.links (nodes_of c)) b₀ true b e))
+          (λ ne. ap (λ x. ltb x 256) (node_other b ne) ∙ sym (at_there (is_held c.links (nodes_of c)) b₀ true b ne))
           (cases_eq b b₀)
 
   pub pushed_puts : (λ b. bodies ns (node_for (link_at ls) (block_at ns) b)) ≡ at (body_of c) b₀ (Some y)
   pushed_puts = fun_ext (λ b. ⊎_elim
       (λ e. ap (bodies ns) (ap (node_for (link_at ls) (block_at ns)) e ∙ node_here)
-      ∙ ap (λ f. f i) (bodies_set c.nodes i n in_nodes) ∙ at_here (bodies c.nodes) i (body_in n) i refl ∙ has ∙ sym (at_here (body_of c) b₀ (Some y) b e))
+      ∙ ap (λ z. bodies z i) is ∙ ap (λ f. f i) (bodies_set (nodes_of c) i n in_nodes) ∙ at_here (bodies (nodes_of c)) i (body_in n) i refl ∙ has ∙ sym (at_here (body_of c) b₀ (Some y) b e))
       (λ ne. ap (bodies ns) (node_other b ne)
-      ∙ apart c i n (omega arith) b (λ e. both_ways _ was_free (ap (is_linked c.nodes) (sym e) ∙ (node_of_block c b (omega arith)).0))
+      ∙ ap (λ z. bodies z (node_of c b)) is ∙ apart c i n (omega arith) b (λ e. both_ways _ was_free (ap (is_linked (nodes_of c)) (sym e) ∙ (node_of_block c b (omega arith)).0))
       ∙ sym (at_there (body_of c) b₀ (Some y) b ne))
       (cases_eq b b₀))
 
@@ -262,7 +255,7 @@ match_some P Q (Some x) t q = q
 match_some P Q None t q = absurd (both_ways false refl t)
 
 -- the node of the block, to which the place q leads, is unlinked; i and j are its number
-module _ (c : Chains) (block : Block) (w : Way) (i : ℕ) (leads : Leads c block.number w) (same : i ≡ w.found.node) (small : w.found.node < 256) (wl : length c.links ≡ 321) where
+module _ (c : Chains) (block : Block) (w : Way) (i : ℕ) (leads : Leads c block.number w) (same : i ≡ w.found.node) (small : w.found.node < 256) (wl : length c.links ≡ 321) (keep : Block) (ns' : List Node) (is' : ns' ≡ set (nodes_of c) i (record { block = keep; content = Free })) where
   abbrev q : ℕ
   q = w.place
 
@@ -287,14 +280,11 @@ module _ (c : Chains) (block : Block) (w : Way) (i : ℕ) (leads : Leads c block
   q_in : q < 321
   q_in = ⊎_elim (λ e. let l = live in omega arith) (λ h. let l = h.0 in omega arith) leads.place
 
-  in_nodes' : i < length c.nodes
+  in_nodes' : i < length (nodes_of c)
   in_nodes' = let e = c.wide in omega arith
 
   abbrev ls' : List (Option ℕ)
   ls' = set (set (set c.links w.place (get_or c.links i None)) i (get_or c.links 320 None)) 320 (Some w.found.node)
-
-  abbrev ns' : List Node
-  ns' = set c.nodes i (record { block = block; content = Free })
 
   abbrev nx' : ℕ → ℕ
   nx' = cut_next (next_in c) (home_in c) (block_in c) c.sound c.single c.kept (home_most c) w.place (bucket_of block.number) live place follows
@@ -312,13 +302,13 @@ module _ (c : Chains) (block : Block) (w : Way) (i : ℕ) (leads : Leads c block
       ∙ ap (λ k. at (at (at (next_in c) q (next_in c k)) k (next_in c 320)) 320 k) (sym is_i)
 
   blocks' : block_at ns' ≡ bl'
-  blocks' = blocks_set c.nodes i (record { block = block; content = Free }) in_nodes' ∙ ap (λ k. at (block_in c) k 0) (sym is_i)
+  blocks' = ap block_at is' ∙ blocks_set (nodes_of c) i (record { block = keep; content = Free }) in_nodes' ∙ ap (λ k. at (block_in c) k 0) (sym is_i)
 
-  flags' : is_linked ns' ≡ at (is_linked c.nodes) i false
-  flags' = linked_set c.nodes i (record { block = block; content = Free }) in_nodes'
+  flags' : is_linked ns' ≡ at (is_linked (nodes_of c)) i false
+  flags' = ap is_linked is' ∙ linked_set (nodes_of c) i (record { block = keep; content = Free }) in_nodes'
 
   homes' : home_at ns' ≡ hm'
-  homes' = homes_set c.nodes i (record { block = block; content = Free }) in_nodes' ∙ ap (λ k. at (home_in c) k 64) (sym is_i)
+  homes' = ap home_at is' ∙ homes_set (nodes_of c) i (record { block = keep; content = Free }) in_nodes' ∙ ap (λ k. at (home_in c) k 64) (sym is_i)
 
   pub unlinked_sound : Sound ls' ns'
   unlinked_sound = subst (λ n. Holds n (home_at ns')) (sym links') (subst (Holds nx') (sym homes')
@@ -336,8 +326,8 @@ module _ (c : Chains) (block : Block) (w : Way) (i : ℕ) (leads : Leads c block
   at_q : node_of c k₀ ≡ i
   at_q = leads.found.node ∙ sym same
 
-  own : (is_linked c.nodes i ≡ true) × (block_in c j ≡ k₀)
-  own = let e = at_q in let (t, d) = node_of_block c k₀ (omega arith) in (ap (is_linked c.nodes) (sym e) ∙ t, ap (block_in c) (is_i ∙ sym e) ∙ d)
+  own : (is_linked (nodes_of c) i ≡ true) × (block_in c j ≡ k₀)
+  own = let e = at_q in let (t, d) = node_of_block c k₀ (omega arith) in (ap (is_linked (nodes_of c)) (sym e) ∙ t, ap (block_in c) (is_i ∙ sym e) ∙ d)
 
   node_gone : node_for (link_at ls') (block_at ns') k₀ ≡ 256
   node_gone = ap₂ (λ n m. node_for n m k₀) links' blocks' ∙ ap (node_for nx' bl') (sym own.1)
@@ -350,7 +340,7 @@ module _ (c : Chains) (block : Block) (w : Way) (i : ℕ) (leads : Leads c block
   pub unlinked_counted : c.count ≡ how_many (is_linked ns') 256 + 1
   unlinked_counted =
       let e = c.counted in
-      let m = many_at (is_linked c.nodes) i false 256 (omega arith) in
+      let m = many_at (is_linked (nodes_of c)) i false 256 (omega arith) in
       let f = ap one own.0 in
       let g = ap (λ t. how_many t 256) flags' in
       omega arith
@@ -358,23 +348,23 @@ module _ (c : Chains) (block : Block) (w : Way) (i : ℕ) (leads : Leads c block
   pub unlinked_held : c.count ≡ how_many (is_held ls' ns') (2 ^ 48) + 1
   unlinked_held =
       let e = c.held in
-      let m = many_at (is_held c.links c.nodes) k₀ false (2 ^ 48) block.within in
+      let m = many_at (is_held c.links (nodes_of c)) k₀ false (2 ^ 48) block.within in
       let f = ap one (lt-ltb (node_of c k₀) 256 (let a = at_q in omega arith)) in
       let g = ap (λ t. how_many t (2 ^ 48)) (fun_ext holds) in
       omega arith
     where
-      holds : (b : ℕ) → is_held ls' ns' b ≡ at (is_held c.links c.nodes) k₀ false b
+      holds : (b : ℕ) → is_held ls' ns' b ≡ at (is_held c.links (nodes_of c)) k₀ false b
       holds b = ⊎_elim
-          (λ e. ap (λ x. ltb x 256) (ap (node_for (link_at ls') (block_at ns')) e ∙ node_gone) ∙ sym (at_here (is_held c.links c.nodes) k₀ false b e))
-          (λ ne. ap (λ x. ltb x 256) (node_kept b ne) ∙ sym (at_there (is_held c.links c.nodes) k₀ false b ne))
+          (λ e. ap (λ x. ltb x 256) (ap (node_for (link_at ls') (block_at ns')) e ∙ node_gone) ∙ sym (at_here (is_held c.links (nodes_of c)) k₀ false b e))
+          (λ ne. ap (λ x. ltb x 256) (node_kept b ne) ∙ sym (at_there (is_held c.links (nodes_of c)) k₀ false b ne))
           (cases_eq b k₀)
 
   pub unlinked_puts : (λ b. bodies ns' (node_for (link_at ls') (block_at ns') b)) ≡ at (body_of c) k₀ None
   unlinked_puts = fun_ext (λ b. ⊎_elim
       (λ e. ap (bodies ns') (ap (node_for (link_at ls') (block_at ns')) e ∙ node_gone)
-      ∙ ap (option_and_then body_in) (slice_get_past ns' 256 (let l = length-set c.nodes i (record { block = block; content = Free }) in let e = c.wide in omega arith)) ∙ sym (at_here (body_of c) k₀ None b e))
+      ∙ ap (option_and_then body_in) (slice_get_past ns' 256 (let k = ap length is' in let l = length-set (nodes_of c) i (record { block = keep; content = Free }) in let e = c.wide in omega arith)) ∙ sym (at_here (body_of c) k₀ None b e))
       (λ ne. ap (bodies ns') (node_kept b ne)
-      ∙ apart c i (record { block = block; content = Free }) (omega arith) b (λ e. ne (sym (node_of_block c b (omega arith)).1 ∙ ap (block_in c) (e ∙ sym is_i) ∙ own.1))
+      ∙ ap (λ z. bodies z (node_of c b)) is' ∙ apart c i (record { block = keep; content = Free }) (omega arith) b (λ e. ne (sym (node_of_block c b (omega arith)).1 ∙ ap (block_in c) (e ∙ sym is_i) ∙ own.1))
       ∙ sym (at_there (body_of c) k₀ None b ne))
       (cases_eq b k₀))
 

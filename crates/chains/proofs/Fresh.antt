@@ -7,8 +7,7 @@ use Rattle.std.proofs.lemmas.Bool.{cases_lt, cases_eq, le-ltb, cond-false}
 use Rattle.words.specs.Layout.{bucket_of}
 use Rattle.chains.specs.Counting.{how_many}
 use Rattle.chains.specs.Links.{chained, node_with, no_twice, on}
-use Rattle.chains.specs.Contents.{body_in, owner_in}
-use Rattle.chains.specs.declared.node.Node.{Node}
+use Rattle.chains.specs.Contents.{body_in, owner_in, Node}
 use Rattle.chains.specs.Nodes.{AllFree, link_at, owner, block_at, is_linked, home_at, chain_from, node_for, is_held, Sound, Single, Kept}
 use Rattle.chains.proofs.Counts.{many_none}
 use Rattle.chains.proofs.Cut.{on_here, on_there}

@@ -8,14 +8,13 @@ use Rattle.std.specs.List.{slice_get}
 use Rattle.words.specs.Layout.{bucket_of}
 use Rattle.words.specs.Points.{at}
 use Rattle.chains.specs.declared.chains.Chains.{Chains}
-use Rattle.chains.specs.Chains.{node_of, body_of, block_of_node}
+use Rattle.chains.specs.Chains.{nodes_of, node_of, body_of, block_of_node}
 use Rattle.chains.specs.Links.{walk, node_with, no_twice, on}
 use Rattle.std.specs.Option.{option_map}
 use Rattle.words.specs.declared.address.Block.{Block}
-use Rattle.chains.specs.declared.node.Node.{Node}
+use Rattle.chains.specs.Contents.{Node, body_in, owner_in}
 use Rattle.chains.specs.Counting.{how_many}
 use Rattle.chains.specs.Blocks.{block_number}
-use Rattle.chains.specs.Contents.{body_in, owner_in}
 use Rattle.chains.specs.declared.node.Body.{Body}
 use Rattle.chains.specs.Nodes.{link_number, link_at, owner, is_linked, block_at, home_at, chain_from}
 use Rattle.chains.proofs.Linking.{at_here, at_there, at_home}
@@ -27,32 +26,32 @@ abbrev pub next_in : Chains → ℕ → ℕ
 next_in c = link_at c.links
 
 abbrev pub home_in : Chains → ℕ → ℕ
-home_in c = home_at c.nodes
+home_in c = home_at (nodes_of c)
 
 abbrev pub block_in : Chains → ℕ → ℕ
-block_in c = block_at c.nodes
+block_in c = block_at (nodes_of c)
 
 pub home_most : (c : Chains) (i : ℕ) → home_in c i ≤ 64
 home_most c i = ⊎_elim
-    (λ t. let e = cond-true (is_linked c.nodes i) (bucket_of (block_in c i)) 64 t in omega arith)
-    (λ f. let e = cond-false (is_linked c.nodes i) (bucket_of (block_in c i)) 64 f in omega arith)
-    (cases_Bool (is_linked c.nodes i))
+    (λ t. let e = cond-true (is_linked (nodes_of c) i) (bucket_of (block_in c i)) 64 t in omega arith)
+    (λ f. let e = cond-false (is_linked (nodes_of c) i) (bucket_of (block_in c i)) 64 f in omega arith)
+    (cases_Bool (is_linked (nodes_of c) i))
 
 -- a node on the chain of a bucket is linked
-pub flag_of_home : (c : Chains) (i : ℕ) → home_in c i < 64 → (is_linked c.nodes i ≡ true) × (home_in c i ≡ bucket_of (block_in c i))
+pub flag_of_home : (c : Chains) (i : ℕ) → home_in c i < 64 → (is_linked (nodes_of c) i ≡ true) × (home_in c i ≡ bucket_of (block_in c i))
 flag_of_home c i l = ⊎_elim
-    (λ t. (t, cond-true (is_linked c.nodes i) (bucket_of (block_in c i)) 64 t))
-    (λ f. let e = cond-false (is_linked c.nodes i) (bucket_of (block_in c i)) 64 f in absurd (omega arith))
-    (cases_Bool (is_linked c.nodes i))
+    (λ t. (t, cond-true (is_linked (nodes_of c) i) (bucket_of (block_in c i)) 64 t))
+    (λ f. let e = cond-false (is_linked (nodes_of c) i) (bucket_of (block_in c i)) 64 f in absurd (omega arith))
+    (cases_Bool (is_linked (nodes_of c) i))
 
-pub home_of_flag : (c : Chains) (i : ℕ) → is_linked c.nodes i ≡ true → home_in c i ≡ bucket_of (block_in c i)
-home_of_flag c i t = cond-true (is_linked c.nodes i) (bucket_of (block_in c i)) 64 t
+pub home_of_flag : (c : Chains) (i : ℕ) → is_linked (nodes_of c) i ≡ true → home_in c i ≡ bucket_of (block_in c i)
+home_of_flag c i t = cond-true (is_linked (nodes_of c) i) (bucket_of (block_in c i)) 64 t
 
-pub no_flag_of_home : (c : Chains) (i : ℕ) → home_in c i ≡ 64 → is_linked c.nodes i ≡ false
+pub no_flag_of_home : (c : Chains) (i : ℕ) → home_in c i ≡ 64 → is_linked (nodes_of c) i ≡ false
 no_flag_of_home c i e = ⊎_elim
     (λ t. let d = home_of_flag c i t in absurd (omega arith))
     (λ f. f)
-    (cases_Bool (is_linked c.nodes i))
+    (cases_Bool (is_linked (nodes_of c) i))
 
 -- the node that is found is on the chain, and has the block
 pub node_on : (bl : ℕ → ℕ) (b : ℕ) (l : List ℕ) → node_with bl b l < 256 → (on (node_with bl b l) l ≡ true) × (bl (node_with bl b l) ≡ b)
@@ -120,14 +119,14 @@ module _ (c : Chains) where
   node_of_most b = node_most (next_in c) (home_in c) (block_in c) (bucket_of b) b _ (chain_from (next_in c) (bucket_of b)) (chain (bucket_of b) (omega arith))
 
   -- the node of a block is linked, and has that block
-  pub node_of_block : (b : ℕ) → node_of c b < 256 → (is_linked c.nodes (node_of c b) ≡ true) × (block_in c (node_of c b) ≡ b)
+  pub node_of_block : (b : ℕ) → node_of c b < 256 → (is_linked (nodes_of c) (node_of c b) ≡ true) × (block_in c (node_of c b) ≡ b)
   node_of_block b l =
       let (o, e) = node_on (block_in c) b (chain_from (next_in c) (bucket_of b)) l in
       let h = at_home (next_in c) (home_in c) (bucket_of b) (node_of c b) _ (chain_from (next_in c) (bucket_of b)) (chain (bucket_of b) (omega arith)) o in
       ((flag_of_home c (node_of c b) (omega arith)).0, e)
 
   -- a node that is linked is the node of its block
-  pub block_of_linked : (i : ℕ) → i < 256 → is_linked c.nodes i ≡ true → node_of c (block_in c i) ≡ i
+  pub block_of_linked : (i : ℕ) → i < 256 → is_linked (nodes_of c) i ≡ true → node_of c (block_in c i) ≡ i
   block_of_linked i l t =
       node_own (next_in c) (home_in c) (block_in c) (bucket_of (block_in c i)) _ (chain_from (next_in c) (bucket_of (block_in c i))) i
       (chain (bucket_of (block_in c i)) (omega arith)) (c.single (bucket_of (block_in c i)) (omega arith))
@@ -135,18 +134,18 @@ module _ (c : Chains) where
 
   -- a body for each block with a node, and no other
   pub no_body : (b : ℕ) → node_of c b ≡ 256 → body_of c b ≡ None
-  no_body b e = ap (option_and_then body_in) (slice_get_past c.nodes (node_of c b) (let w = c.wide in omega arith))
+  no_body b e = ap (option_and_then body_in) (slice_get_past (nodes_of c) (node_of c b) (let w = c.wide in omega arith))
 
   pub no_node : (b : ℕ) → body_of c b ≡ None → node_of c b ≡ 256
   no_node b e = ⊎_elim
-      (λ l. absurd (both_ways _ (ap is_some e) (has_body (slice_get c.nodes (node_of c b)) ∙ (node_of_block b l).0)))
+      (λ l. absurd (both_ways _ (ap is_some e) (has_body (slice_get (nodes_of c) (node_of c b)) ∙ (node_of_block b l).0)))
       (λ g. let m = node_of_most b in omega arith)
       (cases_lt (node_of c b) 256)
 
   pub held_some : (b : ℕ) → is_some (body_of c b) ≡ ltb (node_of c b) 256
   held_some b = ⊎_elim
-      (λ l. has_body (slice_get c.nodes (node_of c b)) ∙ (node_of_block b l).0 ∙ sym (lt-ltb _ 256 l))
-      (λ g. ap (λ o. is_some (option_and_then body_in o)) (slice_get_past c.nodes (node_of c b) (let w = c.wide in omega arith)) ∙ sym (le-ltb _ 256 g))
+      (λ l. has_body (slice_get (nodes_of c) (node_of c b)) ∙ (node_of_block b l).0 ∙ sym (lt-ltb _ 256 l))
+      (λ g. ap (λ o. is_some (option_and_then body_in o)) (slice_get_past (nodes_of c) (node_of c b) (let w = c.wide in omega arith)) ∙ sym (le-ltb _ 256 g))
       (cases_lt (node_of c b) 256)
 
 -- a function of a changed function
@@ -224,23 +223,23 @@ module _ (c : Chains) (b : ℕ) where
   home i s l = (step (next_in c) (home_in c) (bucket_of b) i s.going l).4
 
   -- the block of a node of the chain
-  own_block : (i : ℕ) (d : Node) → Search c b i → i < 256 → block_in c i ≡ (get_or c.nodes i d).block.number
+  own_block : (i : ℕ) (d : Node) → Search c b i → i < 256 → block_in c i ≡ (get_or (nodes_of c) i d).block.number
   own_block i d s l =
       let w = c.wide in
-      let own = ap (option_and_then owner_in) (slice_get-get_or c.nodes i d (omega arith)) in
+      let own = ap (option_and_then owner_in) (slice_get-get_or (nodes_of c) i d (omega arith)) in
       let h = home i s l in
-      ap block_number own ∙ each (body_in (get_or c.nodes i d)) (sym (ap is_some own) ∙ (flag_of_home c i (omega arith)).0)
+      ap block_number own ∙ each (body_in (get_or (nodes_of c) i d)) (sym (ap is_some own) ∙ (flag_of_home c i (omega arith)).0)
     where
-      each : (o : Option Body) → is_some (option_map (λ (_ : Body). (get_or c.nodes i d).block) o) ≡ true → block_number (option_map (λ (_ : Body). (get_or c.nodes i d).block) o) ≡ (get_or c.nodes i d).block.number
+      each : (o : Option Body) → is_some (option_map (λ (_ : Body). (get_or (nodes_of c) i d).block) o) ≡ true → block_number (option_map (λ (_ : Body). (get_or (nodes_of c) i d).block) o) ≡ (get_or (nodes_of c) i d).block.number
       each (Some y) t = refl
       each None t = absurd (both_ways false refl t)
 
   -- the node is compared with the block
-  pub is_it : (i : ℕ) (d : Node) → Search c b i → i < 256 → eqb (get_or c.nodes i d).block.number b ≡ true → block_in c i ≡ b
-  is_it i d s l t = own_block i d s l ∙ eqb-true (get_or c.nodes i d).block.number b t
+  pub is_it : (i : ℕ) (d : Node) → Search c b i → i < 256 → eqb (get_or (nodes_of c) i d).block.number b ≡ true → block_in c i ≡ b
+  is_it i d s l t = own_block i d s l ∙ eqb-true (get_or (nodes_of c) i d).block.number b t
 
-  pub goes_past : (i : ℕ) (d : Node) → Search c b i → i < 256 → eqb (get_or c.nodes i d).block.number b ≡ false → Search c b (next_in c i)
-  goes_past i d s l f = goes_on i s l (λ e. both_ways _ f (eq-eqb (get_or c.nodes i d).block.number b (sym (own_block i d s l) ∙ e)))
+  pub goes_past : (i : ℕ) (d : Node) → Search c b i → i < 256 → eqb (get_or (nodes_of c) i d).block.number b ≡ false → Search c b (next_in c i)
+  goes_past i d s l f = goes_on i s l (λ e. both_ways _ f (eq-eqb (get_or (nodes_of c) i d).block.number b (sym (own_block i d s l) ∙ e)))
 
   pub ends : (i : ℕ) → Search c b i → 256 ≤ i → body_of c b ≡ None
   ends i s l = no_body c b (sym s.same ∙ nowhere (next_in c) (home_in c) (bucket_of b) i s.going (block_in c) b l)
@@ -260,7 +259,7 @@ module _ (c : Chains) (b : ℕ) where
 pub linked_block : (c : Chains) (b i : ℕ) → Search c b i → i < 256 → block_in c i ≡ b → block_of_node c i ≡ Some b
 linked_block c b i s l e =
     let h = home c b i s l in
-    each (owner c.nodes i) (flag_of_home c i (omega arith)).0 e
+    each (owner (nodes_of c) i) (flag_of_home c i (omega arith)).0 e
   where
     each : (o : Option Block) → is_some o ≡ true → block_number o ≡ b → option_map (λ k. k.number) o ≡ Some b
     each (Some k) t d = ap Some d
@@ -271,7 +270,7 @@ pub linked_small : (c : Chains) (i b : ℕ) → block_of_node c i ≡ Some b →
 linked_small c i b e = ⊎_elim
     (λ l. l)
     (λ g. let w = c.wide in
-    let none : block_of_node c i ≡ None = ap (λ o. option_map (λ (k : Block). k.number) (option_and_then owner_in o)) (slice_get_past c.nodes i (omega arith)) in
+    let none : block_of_node c i ≡ None = ap (λ o. option_map (λ (k : Block). k.number) (option_and_then owner_in o)) (slice_get_past (nodes_of c) i (omega arith)) in
     absurd (both_ways _ (ap is_some none) (ap is_some e)))
     (cases_lt i 256)
 

@@ -1,5 +1,6 @@
 pub mod Counts
 pub mod Walks
+pub mod Pairs
 pub mod Cut
 pub mod Alone
 pub mod Linking

@@ -10,16 +10,20 @@ use Rattle.chains.specs.declared.chains.Chains.{Chains}
 use Rattle.chains.specs.declared.node.Body.{Body}
 use Rattle.chains.specs.declared.node.Found.{Found}
 use Rattle.chains.specs.declared.node.Way.{Way}
-use Rattle.chains.specs.Contents.{body_in}
+use Rattle.chains.specs.Contents.{Node, paired, body_in}
 use Rattle.chains.specs.Nodes.{link_at, block_at, owner, home_at, chain_from, node_for, IsPlace}
+
+-- the nodes
+abbrev pub nodes_of : Chains → List Node
+nodes_of c = paired c.blocks c.contents
 
 -- the node of the block, or 256
 abbrev pub node_of : Chains → ℕ → ℕ
-node_of c b = node_for (link_at c.links) (block_at c.nodes) b
+node_of c b = node_for (link_at c.links) (block_at (nodes_of c)) b
 
 -- what the node i holds, where it is not free
 abbrev pub body_at : Chains → ℕ → Option Body
-body_at c i = option_and_then body_in (slice_get c.nodes i)
+body_at c i = option_and_then body_in (slice_get (nodes_of c) i)
 
 -- what is held of the block
 abbrev pub body_of : Chains → ℕ → Option Body
@@ -27,7 +31,7 @@ body_of c b = body_at c (node_of c b)
 
 -- the block of a node, where it is linked
 abbrev pub block_of_node : Chains → ℕ → Option ℕ
-block_of_node c i = option_map (λ b. b.number) (owner c.nodes i)
+block_of_node c i = option_map (λ b. b.number) (owner (nodes_of c) i)
 
 -- the nodes of the chain k, from its head on
 abbrev pub chain_of : Chains → ℕ → List ℕ
@@ -60,7 +64,7 @@ pub record Finds (c : Chains) (b : ℕ) (f : Found) : Type 0 where
 -- the block's node was found, and a place of its chain whose link leads to it
 pub record Leads (c : Chains) (b : ℕ) (w : Way) : Type 0 where
   pub found : Finds c b w.found
-  pub place : IsPlace (home_at c.nodes) (bucket_of b) w.place
+  pub place : IsPlace (home_at (nodes_of c)) (bucket_of b) w.place
   pub link : slice_index_or c.links w.place None ≡ Some w.found.node
 
 -- the block b has the body y now, and every other block what it had

@@ -3,9 +3,8 @@ use Rattle.std.specs.Prelude.{◌≡◌, ℕ, ◌+◌, ◌<◌, ◌≤◌, Bool,
 use Rattle.std.specs.List.{slice_get}
 use Rattle.words.specs.declared.address.Block.{Block}
 use Rattle.words.specs.Layout.{bucket_of}
-use Rattle.chains.specs.declared.node.Node.{Node}
+use Rattle.chains.specs.Contents.{Node, owner_in}
 use Rattle.chains.specs.Blocks.{block_number}
-use Rattle.chains.specs.Contents.{owner_in}
 use Rattle.chains.specs.Links.{walk, chained, node_with, no_twice, on}
 
 -- a link as a number: 256 where there is no next node

@@ -1,10 +1,11 @@
 // Blocks on nodes: 256 nodes in 64 chains, and those that are free in one more.
 ghost use Rattle.std.specs.Prelude.{◌≡◌, ℕ, ◌^◌, None, Some, MatchOption, MatchResult, OnOk, length, slice_index_or};
 ghost use Rattle.words.specs.Points.{at};
+ghost use Rattle.chains.specs.Contents.{paired};
 ghost use Rattle.chains.specs.Counting.{how_many};
 ghost use Rattle.chains.specs.Nodes.{Sound, Single, Kept, AllFree, FreeLink, is_linked, is_held};
 
-use crate::node::{Body, Content, Found, NoNode, Node, Way};
+use crate::node::{Body, Content, Found, NoNode, Way};
 use std::array;
 use words::{Block, Page};
 
@@ -14,19 +15,22 @@ const HEADS: usize = 256;
 const FREE: usize = 320;
 
 // A link leads to the next node, where there is one; by its number, since there is no heap. The links of the 256 nodes are followed by the
-// heads of the 64 chains and of the free nodes: in one array, so that a link is written alike in a node and in a head. A node that has a
+// heads of the 64 chains and of the free nodes: in one array, so that a link is written alike in a node and in a head. The blocks and the
+// contents of the nodes are arrays of their own, as a search reads only links and blocks. The block of a free node is of no account: a
+// search compares only the nodes of its chain, and none of those is free. A node that has a
 // block is on the chain of the block's bucket. The count of those is kept, so that none has to be counted.
 #[derive(Drop)]
 pub struct Chains {
     links: [Option<u8>; 321],
-    nodes: [Node; 256],
+    blocks: [Block; 256],
+    contents: [Content; 256],
     count: u16,
-    ghost wide: { length nodes ≡ 256 },
-    ghost sound: { Sound links nodes },
-    ghost single: { Single links nodes },
-    ghost kept: { Kept links nodes },
-    ghost counted: { count ≡ how_many (is_linked nodes) 256 },
-    ghost held: { count ≡ how_many (is_held links nodes) (2 ^ 48) },
+    ghost wide: { length (paired blocks contents) ≡ 256 },
+    ghost sound: { Sound links (paired blocks contents) },
+    ghost single: { Single links (paired blocks contents) },
+    ghost kept: { Kept links (paired blocks contents) },
+    ghost counted: { count ≡ how_many (is_linked (paired blocks contents)) 256 },
+    ghost held: { count ≡ how_many (is_held links (paired blocks contents)) (2 ^ 48) },
 }
 
 // Where a place leads while every node is free.
@@ -53,13 +57,10 @@ impl Chains {
     pub fn new() -> Chains
         ensures { (b : ℕ) → body_of result b ≡ None }
     {
-        let spare = Node {
-            block: Page::of_address(0).block(),
-            content: Content::Free,
-        };
         Chains {
             links: free_links(),
-            nodes: [spare; 256],
+            blocks: [Page::of_address(0).block(); 256],
+            contents: [Content::Free; 256],
             count: 0,
         }
     }
@@ -83,7 +84,7 @@ impl Chains {
     pub fn body(&self, node: u8) -> Option<Body>
         ensures { result ≡ body_at self.now node }
     {
-        self.nodes[usize::from(node)].body()
+        self.contents[usize::from(node)].body()
     }
 
     // Writes what a node holds; one that is free stays so.
@@ -92,9 +93,8 @@ impl Chains {
         ensures order { chain_of self.new ≡ chain_of self.old }
     {
         let own = usize::from(node);
-        let held = self.nodes[own];
-        if held.body().is_some() {
-            self.nodes[own] = Node::of(held.block, body);
+        if self.contents[own].body().is_some() {
+            self.contents[own] = Content::from(body);
         }
     }
 
@@ -135,7 +135,7 @@ impl Chains {
         let mut looked = 0;
         while let Some(node) = self.links[place] {
             looked += 1;
-            if self.nodes[usize::from(node)].is_of(block) {
+            if self.blocks[usize::from(node)] == block {
                 let found = Found { node, looked };
                 return Some(Way { place, found });
             }
@@ -158,7 +158,8 @@ impl Chains {
         self.links[own] = first;
         self.links[FREE] = rest;
         self.links[head] = Some(node);
-        self.nodes[own] = Node::of(block, body);
+        self.blocks[own] = block;
+        self.contents[own] = Content::from(body);
         self.count += 1;
     }
 
@@ -174,10 +175,7 @@ impl Chains {
         self.links[way.place] = rest;
         self.links[own] = free;
         self.links[FREE] = Some(way.found.node);
-        self.nodes[own] = Node {
-            block,
-            content: Content::Free,
-        };
+        self.contents[own] = Content::Free;
         self.count -= 1;
     }
 }

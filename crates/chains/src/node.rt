@@ -1,10 +1,10 @@
 // A node, and what it holds of its block.
-ghost use Rattle.std.specs.Prelude.{◌≡◌, ◌<◌, Some, ◌==◌};
+ghost use Rattle.std.specs.Prelude.{◌≡◌, ◌<◌, Some};
 ghost use Rattle.chains.specs.Faults.{no_node_left};
 
 use std::error::Error;
 use std::fmt;
-use words::{Block, CompactWord};
+use words::CompactWord;
 
 // One of 128 rows of sixteen full words, by its number; a type of its own, as a page is.
 #[derive(Clone, Copy, PartialEq, Eq, Debug)]
@@ -37,37 +37,27 @@ pub enum Content {
     Row(RowNumber),
 }
 
-// The block of a free node is of no account: a search compares only the nodes of its chain, and none of those is free.
-#[derive(Clone, Copy, PartialEq, Eq, Debug)]
-pub struct Node {
-    pub block: Block,
-    pub content: Content,
-}
+impl From<Body> for Content {
+    ghost use Rattle.chains.specs.Contents.{content_body};
 
-impl Node {
-    ghost use Rattle.chains.specs.Contents.{body_in, Has};
+    ghost from_gives = { λ body content. content_body content ≡ Some body };
 
-    pub(crate) fn of(block: Block, body: Body) -> Node
-        ensures { (result.block ≡ block) × Has result body }
-    {
-        let content = match body {
+    fn from(body: Body) -> Content {
+        match body {
             Body::Compact(word) => Content::Compact(word),
             Body::Row(row) => Content::Row(row),
-        };
-        Node { block, content }
+        }
     }
+}
 
-    pub(crate) fn is_of(&self, block: Block) -> bool
-        ensures { result ≡ (self.now.block.number == block.number) }
-    {
-        self.block == block
-    }
+impl Content {
+    ghost use Rattle.chains.specs.Contents.{content_body};
 
     // None where the node is free.
-    pub(crate) fn body(&self) -> Option<Body>
-        ensures { result ≡ body_in self.now }
+    pub(crate) fn body(self) -> Option<Body>
+        ensures { result ≡ content_body self }
     {
-        match self.content {
+        match self {
             Content::Free => None,
             Content::Compact(word) => Some(Body::Compact(word)),
             Content::Row(row) => Some(Body::Row(row)),

@@ -1,5 +1,9 @@
 use Rattle.std.proofs.Common.{◌≡◌, ◌+◌, ◌-◌, ◌<◌, eqb, length, get_or, sym, ap, ◌∙◌, subst, inr, arith}
+use Rattle.words.specs.declared.address.Block.{Block}
 use Rattle.words.specs.Layout.{bucket_of}
+use Rattle.chains.specs.declared.node.Content.TheVariants.{Free}
+use Rattle.chains.specs.Contents.{Node}
+use Rattle.chains.proofs.Pairs.{paired_get}
 use Rattle.chains.specs.Links.{walk}
 use Rattle.std.specs.List.{slice_get}
 use Rattle.chains.specs.Nodes.{link_number, chain_from}
@@ -18,15 +22,18 @@ overflow_add-looked c =
     let m = length_most (next_in s) 256 (next_in s (256 + bucket_of b)) in
     omega arith
 
-pub returns-then-is_of : goal.returns-then-is_of
-returns-then-is_of c =
+pub returns-then-eq : goal.returns-then-eq
+returns-then-eq c =
     let s = c.args.self.now in
     let b = c.args.block.number in
     let i = c.in-Some.node in
     let q = c.loop-place.invariant in
     let small : i < 256 = omega arith in
     let at_i : Search s b i = subst (Search s b) (ap link_number c.in-Some.is) q.search in
-    let own = is_it s b i c.index-self-from.result at_i small (ap (λ k. eqb (get_or s.nodes k c.index-self-from.result).block.number b) (sym c.from.ensures) ∙ sym c.is_of.ensures ∙ c.if-is_of.true) in
+    let k : Block = c.index-self-from.result in
+    let d : Node = record { block = k; content = Free } in
+    let there = ap (λ (n : Node). n.block) (paired_get s.blocks s.contents i k Free d (omega arith) (omega arith)) in
+    let own = is_it s b i d at_i small (ap (λ (x : Block). eqb x.number b) there ∙ ap (λ j. eqb (get_or s.blocks j k).number b) (sym c.from.ensures) ∙ sym c.eq.ensures ∙ c.if-eq.true) in
     let (less, last, rest) = after s b c.loop-place.looked i at_i small (q.passed ∙ ap (walk (next_in s) 256) (ap link_number c.in-Some.is)) in
     let one : c.loop-place.looked + 1 - 1 ≡ c.loop-place.looked = omega arith in
     let most = chain_count s (bucket_of b) (omega arith) in
@@ -62,10 +69,13 @@ loop-place-preserved c =
     let small : i < 256 = omega arith in
     let at_i : Search s b i = subst (Search s b) (ap link_number c.in-Some.is) q.search in
     let (less, last, rest) = after s b c.loop-place.looked i at_i small (q.passed ∙ ap (walk (next_in s) 256) (ap link_number c.in-Some.is)) in
-    let k = c.from-place.ensures in
+    let e = c.from-place.ensures in
+    let k : Block = c.index-self-from.result in
+    let d : Node = record { block = k; content = Free } in
+    let there = ap (λ (n : Node). n.block) (paired_get s.blocks s.contents i k Free d (omega arith) (omega arith)) in
     record {
       search = subst (λ k. Search s b (next_in s k)) (sym c.from-place.ensures)
-          (goes_past s b i c.index-self-from.result at_i small (ap (λ k. eqb (get_or s.nodes k c.index-self-from.result).block.number b) (sym c.from.ensures) ∙ sym c.is_of.ensures ∙ c.if-is_of.false));
+          (goes_past s b i d at_i small (ap (λ (x : Block). eqb x.number b) there ∙ ap (λ j. eqb (get_or s.blocks j k).number b) (sym c.from.ensures) ∙ sym c.eq.ensures ∙ c.if-eq.false));
       place = inr (omega arith, ap (home_in s) c.from-place.ensures ∙ home s b i at_i small);
       passed = rest ∙ ap (λ k. walk (next_in s) 256 (next_in s k)) (sym c.from-place.ensures);
     }
