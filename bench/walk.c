@@ -23,9 +23,8 @@ enum {
 
 enum content { FREE, COMPACT, ROW };
 
-/* 24 bytes: the content is a compact word, or the number of a row */
-struct node {
-    uint64_t block;
+/* 16 bytes: a compact word, or the number of a row */
+struct held {
     enum content kind;
     uint64_t content;
 };
@@ -35,7 +34,8 @@ struct table {
     int16_t heads[BUCKETS];
     int16_t next[NODES];
     int16_t free;
-    struct node nodes[NODES];
+    uint64_t blocks[NODES];
+    struct held held[NODES];
     uint64_t rows[ROWS][16];
     unsigned rows_used;
 };
@@ -59,18 +59,19 @@ static inline bool walk(const struct table *table, uint64_t page, struct walked 
     unsigned looked = 0;
 
     for (int i = table->heads[bucket_of(block)]; i != END; i = table->next[i]) {
-        const struct node *node = &table->nodes[i];
-
         looked++;
-        if (node->block != block)
+        if (table->blocks[i] != block)
             continue;
+
+        const struct held *held = &table->held[i];
+
         walked->looked = looked;
-        walked->form = node->kind;
-        if (node->kind == COMPACT) {
-            walked->word = node->content;
-            return node->content >> (48 + offset) & 1;
+        walked->form = held->kind;
+        if (held->kind == COMPACT) {
+            walked->word = held->content;
+            return held->content >> (48 + offset) & 1;
         }
-        walked->word = table->rows[node->content][offset];
+        walked->word = table->rows[held->content][offset];
         return walked->word != 0;
     }
     return false;
@@ -85,38 +86,39 @@ static void empty(struct table *table)
         table->next[i] = i == NODES - 1 ? END : i + 1;
 }
 
-/* The node of a block, linked at the head of its chain where it is new. */
-static struct node *node_of(struct table *table, uint64_t block)
+/* What the node of a block holds; it is linked at the head of its chain where it is new. */
+static struct held *held_of(struct table *table, uint64_t block)
 {
     int16_t *head = &table->heads[bucket_of(block)];
 
     for (int i = *head; i != END; i = table->next[i])
-        if (table->nodes[i].block == block)
-            return &table->nodes[i];
+        if (table->blocks[i] == block)
+            return &table->held[i];
 
     int i = table->free;
     table->free = table->next[i];
     table->next[i] = *head;
     *head = i;
-    table->nodes[i] = (struct node){.block = block, .kind = FREE};
-    return &table->nodes[i];
+    table->blocks[i] = block;
+    table->held[i] = (struct held){.kind = FREE};
+    return &table->held[i];
 }
 
 /* Maps a page to a frame, with read, write and execute; enough for the maps of this program, where a block is placed or not as a whole. */
 static void map(struct table *table, uint64_t page, uint64_t frame)
 {
-    struct node *node = node_of(table, page / 16);
+    struct held *held = held_of(table, page / 16);
 
     if (frame % 16 == page % 16) {
-        node->kind = COMPACT;
-        node->content |= UINT64_C(1) << (48 + page % 16) | frame / 16 << 16 | 7;
+        held->kind = COMPACT;
+        held->content |= UINT64_C(1) << (48 + page % 16) | frame / 16 << 16 | 7;
         return;
     }
-    if (node->kind == FREE) {
-        node->kind = ROW;
-        node->content = table->rows_used++;
+    if (held->kind == FREE) {
+        held->kind = ROW;
+        held->content = table->rows_used++;
     }
-    table->rows[node->content][page % 16] = UINT64_C(1) << 63 | frame << 12 | 7;
+    table->rows[held->content][page % 16] = UINT64_C(1) << 63 | frame << 12 | 7;
 }
 
 static uint64_t page_of(unsigned number)
