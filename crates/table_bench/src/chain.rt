@@ -1,4 +1,6 @@
 // A page table whose one chain has some nodes, and the pages to walk to.
+ghost use Rattle.std.specs.Prelude.{◌≡◌};
+
 use table::PageTable;
 use words::{Page, Translation};
 
@@ -53,7 +55,10 @@ impl Chain {
         Chain { table, pages }
     }
 
-    pub(crate) fn walks(&self, rounds: u64) -> u64 {
+    // The sum of the walks: nothing without rounds.
+    pub(crate) fn walks(&self, rounds: u64) -> u64
+        ensures { rounds ≡ 0 → result ≡ 0 }
+    {
         let mut state = 1u64;
         let mut sum = 0u64;
         for _ in 0..rounds {
