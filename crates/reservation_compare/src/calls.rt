@@ -1,5 +1,6 @@
 // The calls that are made: in turn on few blocks and on more than there are groups, while most frames are in and while none is left.
-ghost use Rattle.std.specs.Prelude.{◌<◌};
+ghost use Rattle.std.specs.Prelude.{◌≡◌, ◌<◌, ◌^◌, sum_by};
+ghost use Rattle.reservation_compare.specs.declared.calls.Call.TheVariants.{Allocate, Free};
 
 use rand_core::Rng;
 use std::fmt;
@@ -39,7 +40,10 @@ pub struct Phase {
     ghost some_last: { 0 < last },
 }
 
-pub fn phases() -> [Phase; 9] {
+// How the calls are drawn, one stretch after the other: 17,000 calls in all.
+pub fn phases() -> [Phase; 9]
+    ensures { sum_by (λ p. p.calls) result ≡ 17000 }
+{
     [
         // groups that break and open again
         stretch(2_000, 13, 2, 1, 8),
@@ -62,6 +66,7 @@ pub fn phases() -> [Phase; 9] {
 fn stretch(calls: u32, frees: u64, blocks: u16, apart: u16, last: u16) -> Phase
     requires blocks { 0 < blocks }
     requires last { 0 < last }
+    ensures { result.calls ≡ calls }
 {
     Phase {
         calls,
@@ -73,8 +78,10 @@ fn stretch(calls: u32, frees: u64, blocks: u16, apart: u16, last: u16) -> Phase
 }
 
 impl Call {
-    // The next call, where these frames went out.
-    pub fn draw<R: Rng>(random: &mut R, phase: Phase, given: &[u32]) -> Call {
+    // The next call, where these frames went out. A page is of one of 2^32 blocks; which call it is stays free.
+    pub fn draw<R: Rng>(random: &mut R, phase: Phase, given: &[u32]) -> Call
+        ensures { elim result [ Allocate page ↦ page < 2 ^ 36 | Free frame ↦ Unit {0} ] }
+    {
         if below(random, 16) < phase.frees {
             Call::Free(draw_frame(random, phase, given))
         } else {
@@ -83,7 +90,9 @@ impl Call {
     }
 }
 
-fn draw_page<R: Rng>(random: &mut R, phase: Phase) -> u64 {
+fn draw_page<R: Rng>(random: &mut R, phase: Phase) -> u64
+    ensures { result < 2 ^ 36 }
+{
     let block = below(random, u64::from(phase.blocks)) * u64::from(phase.apart);
     16 * block + below(random, 16)
 }

@@ -1,5 +1,6 @@
 // Reservation by its rules alone: each step looks through all the groups.
-ghost use Rattle.std.specs.Prelude.{◌<◌};
+ghost use Rattle.std.specs.Prelude.{◌≡◌, ◌<◌, All, IfOk, false, length, replicate};
+ghost use Rattle.reservation_compare.specs.declared.group_model.Use.TheVariants.{Open};
 
 use crate::calls::FIRST_FRAME;
 use crate::event::Event;
@@ -74,13 +75,16 @@ enum Step {
 }
 
 #[derive(Drop)]
-pub struct GroupModel {
+pub(crate) struct GroupModel {
     groups: Vec<GroupState>,
     turns: u64,
 }
 
 impl GroupModel {
-    pub fn new(heap: Global) -> Result<GroupModel, AllocError> {
+    // Every group open, all of its frames in.
+    pub fn new(heap: Global) -> Result<GroupModel, AllocError>
+        ensures { IfOk result (λ m. (length m.groups.items ≡ 256) × (m.turns ≡ 0) × All (λ s. (s.used ≡ Open) × (s.out ≡ replicate 16 false)) m.groups.items) }
+    {
         let open = GroupState {
             used: Use::Open,
             out: [false; 16],

@@ -1,4 +1,6 @@
 // The free list as the queue of the frames that are in.
+ghost use Rattle.std.specs.Prelude.{◌≡◌, ◌+◌, ℕ, ◌<◌, IfOk, length, slice_index_or};
+
 use crate::calls::FIRST_FRAME;
 use crate::event::Event;
 use crate::fault::Fault;
@@ -7,12 +9,15 @@ use std::alloc::{AllocError, Global};
 use std::collections::VecDeque;
 
 #[derive(Drop)]
-pub struct ListModel {
+pub(crate) struct ListModel {
     free: VecDeque<u32>,
 }
 
 impl ListModel {
-    pub fn new(heap: Global) -> Result<ListModel, AllocError> {
+    // All 4,096 frames from the first on, in their order.
+    pub fn new(heap: Global) -> Result<ListModel, AllocError>
+        ensures { IfOk result (λ m. (length m.free.items ≡ 4096) × ((i d : ℕ) → i < 4096 → slice_index_or m.free.items i d ≡ 74560 + i)) }
+    {
         let mut free = VecDeque::new(heap);
         for frame in FIRST_FRAME..FIRST_FRAME + 4096 {
             free.push_back(frame)?;
