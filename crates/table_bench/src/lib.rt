@@ -1,5 +1,6 @@
 // Walks of a page table for `bench/walk.c` to time. What the sum of some rounds is stays free here: it is compared with that of a table in C.
 #![tactic(auto)]
+
 ghost use Rattle.std.specs.Prelude.{◌≡◌};
 
 mod chain;
