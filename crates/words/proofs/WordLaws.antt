@@ -1,5 +1,6 @@
 -- The laws of the reader and of the words.
-use Rattle.std.proofs.Common.{◌≡◌, ℕ, ◌^◌, ◌<◌, true, false, ◌&&◌, eqb, leb, Some, None, Err, Option, sym, refl, ap, ◌∙◌, subst, ap₂, ⊎_elim, arith}
+use Rattle.std.proofs.Common.{◌≡◌, ℕ, ◌^◌, ◌<◌, Bool, true, false, ◌&&◌, eqb, leb, Some, None, Err, Option, sym, refl, ap, ◌∙◌, subst, ap₂, ⊎_elim, arith}
+use Rattle.std.proofs.Math.Bool.{Bool-set}
 use Rattle.std.proofs.lemmas.Bool.{cases_Bool, cases_eq, ne_eqb, and_left, cond-false}
 use Rattle.words.specs.declared.fault.ReadFault.TheVariants.{BadWord}
 use Rattle.words.specs.declared.translation.Translation.{Translation}
@@ -17,7 +18,8 @@ use Rattle.words.proofs.Blocks.{value_reading, full_reading, compact_reading}
 own_page : (p : ℕ) → page_at (block_of p) (offset_of p) ≡ p
 own_page p = omega arith
 
-stands_reading : (m : Mapping) (p : ℕ) (g : Form) (w : ℕ) → StandsFor m p g w → reading (form_number g) w (offset_of p) ≡ answer_of (m p)
+-- what the reader finds in the word that stands for a page
+pub stands_reading : (m : Mapping) (p : ℕ) (g : Form) (w : ℕ) → StandsFor m p g w → reading (form_number g) w (offset_of p) ≡ answer_of (m p)
 stands_reading m p form.Compact w s = compact_reading m (block_of p) w (offset_of p) s (omega arith) ∙ ap (λ q. answer_of (m q)) (own_page p)
 stands_reading m p form.Full w (n, e) = ap (λ x. reading 2 x (offset_of p)) e ∙ full_reading m p (offset_of p) (omega arith)
 
@@ -75,3 +77,14 @@ one_word m p form.Full form.Compact w v (n, _) (_, (k, a, placed, _)) = absurd (
 
 pub same_word_same_pages : SameWordSamePages
 same_word_same_pages m n b w x y o h = same_answer (m (page_at b o)) (n (page_at b o)) (sym (compact_reading m b w o x h) ∙ compact_reading n b w o y h)
+
+-- what is made of a number that passes a test is made in one way
+one_made : {W : Type 0} (test : ℕ → Bool) (make : (b : ℕ) → test b ≡ true → W) (b d : ℕ) (x : test b ≡ true) (y : test d ≡ true) → b ≡ d → make b x ≡ make d y
+one_made test make b d x y e = subst (λ n. (z : test n ≡ true) → make n z ≡ make d y) (sym e) (λ z. ap (make d) (Bool-set _ _ z y)) x
+
+-- a value of the word types is its form and its bits
+pub same_word : (w v : Word) → form_of w ≡ form_of v → bits_of w ≡ bits_of v → w ≡ v
+same_word (CompactValue w) (CompactValue v) i e = one_made is_compact (λ b x. CompactValue (record { bits = b; sound = x })) w.bits v.bits w.sound v.sound e
+same_word (FullValue w) (FullValue v) i e = one_made is_full (λ b x. FullValue (record { bits = b; sound = x })) w.bits v.bits w.sound v.sound e
+same_word (CompactValue w) (FullValue v) i e = let z = ap form_number i in absurd (omega arith)
+same_word (FullValue w) (CompactValue v) i e = let z = ap form_number i in absurd (omega arith)

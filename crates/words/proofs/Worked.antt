@@ -40,10 +40,10 @@ sits_0x41 o t i e =
     let a : t.attributes ≡ 3 = ap (λ (u : Translation). u.attributes) (sym z) in
     (omega arith, omega arith, a)
 
-single_placed : Placed (single 0x1001) 4 0x100 3
+pub single_placed : Placed (single 0x1001) 4 0x100 3
 single_placed = placed_at unmapped 4 0x100 3 0x41 (Some (translation 0x1001 3)) (nothing_placed 0x100 3) sits_0x41
 
-whole_placed : Placed whole 4 0x100 3
+pub whole_placed : Placed whole 4 0x100 3
 whole_placed o t h e =
     let i : eqb (block_of (page_at 4 o)) 4 ≡ true = eq-eqb _ 4 (omega arith) in
     let z = some_is (translation (0x1000 + offset_of (page_at 4 o)) 3) t (sym (cond-true _ (Some (translation (0x1000 + offset_of (page_at 4 o)) 3)) None i) ∙ e) in
@@ -51,18 +51,18 @@ whole_placed o t h e =
     let a : t.attributes ≡ 3 = ap (λ (u : Translation). u.attributes) (sym z) in
     (omega arith, omega arith, a)
 
-restored_placed : Placed restored 4 0x100 3
+pub restored_placed : Placed restored 4 0x100 3
 restored_placed =
     subst (λ m. Placed m 4 0x100 3) (sym (at_twice whole 0x41 (Some (translation 0x1001 1)) (Some (translation 0x1001 3))))
     (placed_at whole 4 0x100 3 0x41 (Some (translation 0x1001 3)) whole_placed sits_0x41)
 
-released_placed : Placed released 4 0x100 3
+pub released_placed : Placed released 4 0x100 3
 released_placed = placed_at restored 4 0x100 3 0x41 None restored_placed (λ o t i e. absurd (none_some t e))
 
-misplaced : Compact (single 0x1000) 4 → ⊥
+pub misplaced : Compact (single 0x1000) 4 → ⊥
 misplaced (k, a, placed) = let (i, j, l) = placed 1 (translation 0x1000 3) (omega arith) refl in omega arith
 
-mixed : Compact protected 4 → ⊥
+pub mixed : Compact protected 4 → ⊥
 mixed (k, a, placed) =
     let (i, j, l) = placed 1 (translation 0x1001 1) (omega arith) refl in
     let (u, v, w) = placed 2 (translation 0x1002 3) (omega arith) refl in
