@@ -23,6 +23,10 @@ abbrev pub Refuses : AddFault → (ℕ → Option ℕ) → ℕ → Type 0
 Refuses Waiting m p = Waits m p
 Refuses TooMany m p = (m p ≡ None) × WaitingPages m 32
 
--- a fill was taken in: its page did not wait, and fewer than 32 did
+-- a fill of the page may be taken in: the page does not wait, and fewer than 32 do
+abbrev pub Admits : (ℕ → Option ℕ) → ℕ → Type 0
+Admits m p = (m p ≡ None) × (WaitingPages m 32 → ⊥)
+
+-- a fill was taken in
 abbrev pub Adds : (ℕ → Option ℕ) → ℕ → ℕ → (ℕ → Option ℕ) → Type 0
-Adds m p f n = (m p ≡ None) × (WaitingPages m 32 → ⊥) × (n ≡ at m p (Some f))
+Adds m p f n = Admits m p × (n ≡ at m p (Some f))

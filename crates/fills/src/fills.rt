@@ -1,5 +1,5 @@
 // The list of fills.
-ghost use Rattle.std.specs.Prelude.{◌≡◌, ℕ, ◌^◌, ◌<◌, ◌≢◌, true, None, Some, MatchOption, MatchResult, IfSome, slice_index_or};
+ghost use Rattle.std.specs.Prelude.{◌≡◌, ℕ, ◌^◌, ◌<◌, ◌≤◌, ◌≢◌, true, None, Some, MatchOption, MatchResult, IfSome, slice_index_or};
 ghost use Rattle.arrayvec.specs.ArrayVec.{array_vec_len};
 ghost use Rattle.words.specs.Points.{at};
 ghost use Rattle.fills.specs.declared.waiting.Waiting.{Waiting as AFill};
@@ -14,11 +14,12 @@ use words::Page;
 #[derive(Drop)]
 pub struct Fills {
     waiting: ArrayVec<Waiting, 32>,
+    ghost few: { array_vec_len waiting ≤ 32 },
     ghost once: { once waiting.items ≡ true },
 }
 
 impl Fills {
-    ghost use Rattle.fills.specs.Fills.{waits, WaitingPages, Adds, Refuses};
+    ghost use Rattle.fills.specs.Fills.{waits, WaitingPages, Admits, Adds, Refuses};
 
     // No fill is under way.
     pub fn new() -> Fills
@@ -45,18 +46,26 @@ impl Fills {
         Some(self.waiting[place].frame)
     }
 
+    // Whether a fill of a page may be taken in.
+    pub fn admits(&self, page: Page) -> Result<(), AddFault>
+        ensures { MatchResult result (λ _. Admits (waits self.now) page.number) (λ e. Refuses e (waits self.now) page.number) }
+    {
+        if self.place(page).is_some() {
+            return Err(AddFault::Waiting);
+        }
+        if self.waiting.is_full() {
+            return Err(AddFault::TooMany);
+        }
+        Ok(())
+    }
+
     // Takes in a fill.
     pub fn add(&mut self, fill: Waiting) -> Result<(), AddFault>
         ensures { MatchResult result
             (λ _. Adds (waits self.old) fill.page.number fill.frame (waits self.new))
             (λ e. Refuses e (waits self.old) fill.page.number × (self.new ≡ self.old)) }
     {
-        if self.place(fill.page).is_some() {
-            return Err(AddFault::Waiting);
-        }
-        if self.waiting.is_full() {
-            return Err(AddFault::TooMany);
-        }
+        self.admits(fill.page)?;
         self.waiting.push(fill);
         Ok(())
     }

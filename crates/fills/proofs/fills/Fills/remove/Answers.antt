@@ -1,4 +1,4 @@
-use Rattle.std.proofs.Common.{Some, get_or, refl, sym, ap, ◌∙◌}
+use Rattle.std.proofs.Common.{Some, get_or, refl, sym, ap, ◌∙◌, arith}
 use Rattle.fills.specs.Lists.{frame_for, once}
 use Rattle.fills.proofs.Lists.{found_at, some_frames, frame_removed, once_removed}
 use Rattle.fills.proofs.fills.Fills.remove.Goals as goal
@@ -15,7 +15,7 @@ pub invariant_of-self : goal.invariant_of-self
 invariant_of-self c =
     let s = c.args.self.now in
     let (l, _, _) = found_at s.waiting.items c.args.page.number c.place.result c.in_ok-place.place c.index-deref-place.result s.once c.place.ensures c.in_ok-place.ensures.ok_part in
-    record { once = ap once c.remove.ensures.items ∙ once_removed s.waiting.items c.in_ok-place.place s.once l }
+    record { few = let most = s.few in let e = c.remove.ensures.len in omega arith; once = ap once c.remove.ensures.items ∙ once_removed s.waiting.items c.in_ok-place.place s.once l }
 
 pub returns : goal.returns
 returns c =
