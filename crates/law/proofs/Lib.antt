@@ -1,0 +1,4 @@
+pub mod Frames
+pub mod Determined
+pub mod Worked
+pub mod Apart
