@@ -1,0 +1,4 @@
+pub mod Points
+pub mod Steps
+pub mod Looks
+pub mod Runs

@@ -1,0 +1,70 @@
+// A fill under way, as its holder has it.
+ghost use Rattle.std.specs.Prelude.{◌≡◌};
+ghost use Rattle.space.specs.declared.fill.Fill.{Fill as AFill};
+
+use crate::space::Space;
+use fills::NoFill;
+use frames::FrameAllocator;
+use law::SettleFault;
+use tlb::Tlb;
+use words::Page;
+
+// A page that waits for its translation, with the frame that was taken for it. It has no `Drop`: it is settled or abandoned, and never let go.
+pub struct Fill {
+    pub(crate) page: Page,
+    pub(crate) frame: u32,
+}
+
+// A fill that was not settled comes back with the reason.
+pub struct Unsettled {
+    pub fill: Fill,
+    pub fault: SettleFault,
+}
+
+impl Fill {
+    ghost use Rattle.space.specs.Fill.{fill_page, fill_frame};
+    ghost use Rattle.space.specs.Space.{Lawful, settled, abandoned, FillBack, SettleLeaves, AbandonLeaves};
+
+    // The page that waits.
+    pub fn page(&self) -> Page
+        ensures { result ≡ fill_page self.now }
+    {
+        self.page
+    }
+
+    // The frame that was taken for it.
+    pub fn frame(&self) -> u32
+        ensures { result ≡ fill_frame self.now }
+    {
+        self.frame
+    }
+
+    // Maps the page to its frame, with these attributes; the frame.
+    pub fn settle<T: Tlb, F: FrameAllocator>(
+        self,
+        space: &mut Space<T, F>,
+        attributes: u16,
+    ) -> Result<u32, Unsettled>
+        ensures law { Lawful T.Tlb.meaning F.FrameAllocator.meaning space.old (settled self attributes result) space.new }
+        ensures back { FillBack self result }
+        ensures leaves { SettleLeaves space.old (fill_frame self) result space.new }
+    {
+        let Fill { page, frame } = self;
+        match space.settle(page, frame, attributes) {
+            Ok(frame) => Ok(frame),
+            Err(fault) => Err(Unsettled {
+                fill: Fill { page, frame },
+                fault,
+            }),
+        }
+    }
+
+    // Gives the frame back; the frame. The fill is spent in either case.
+    pub fn abandon<T: Tlb, F: FrameAllocator>(self, space: &mut Space<T, F>) -> Result<u32, NoFill>
+        ensures law { Lawful T.Tlb.meaning F.FrameAllocator.meaning space.old (abandoned self result) space.new }
+        ensures leaves { AbandonLeaves space.old (fill_frame self) result space.new }
+    {
+        let Fill { page, frame } = self;
+        space.abandon(page, frame)
+    }
+}
