@@ -1,0 +1,2 @@
+pub mod OnePair
+pub mod NoFrames
