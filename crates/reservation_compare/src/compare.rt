@@ -1,4 +1,6 @@
 // The same calls on an allocator and on a model of it.
+ghost use Rattle.std.specs.Prelude.{◌≡◌, IfOk, length};
+
 use crate::calls::{Call, phases};
 use crate::event::Event;
 use crate::fault::{Fault, Stop};
@@ -9,12 +11,14 @@ use rand_xoshiro::Xoshiro256PlusPlus;
 use std::alloc::Global;
 use words::Page;
 
-// What came of each call, where every answer is one that the model allows.
+// What came of each of the 17,000 calls, where every answer is one that the model allows.
 pub fn compare<A: FrameAllocator + Drop, M: FrameModel + Drop>(
     heap: Global,
     allocator: A,
     model: M,
-) -> Result<Vec<Event>, Stop> {
+) -> Result<Vec<Event>, Stop>
+    ensures { IfOk result (λ events. length events.items ≡ 17000) }
+{
     let mut random = Xoshiro256PlusPlus::seed_from_u64(1);
     let mut both = Both {
         allocator,
