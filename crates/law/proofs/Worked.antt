@@ -102,7 +102,9 @@ unused b (o, l, (t, e)) = none-some t e
 pub worked_examples : WorkedExamples
 worked_examples = record {
   formats = examples;
-  settled = ap (λ f. record { pages = single 0x1001; fills = f }) (no_fill_left 0x1001);
+  settled = λ p e.
+      ap (λ n. record { pages = at unmapped n (Some (translation 0x1001 3)); fills = at (at (λ q. None) 0x41 (Some 0x1001)) n None }) e
+      ∙ ap (λ f. record { pages = single 0x1001; fills = f }) (no_fill_left 0x1001);
   protect = refl;
   protect_back = refl;
   release = refl;

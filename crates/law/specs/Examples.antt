@@ -1,6 +1,5 @@
 -- Worked values of the page map, together with those of the formats.
 use Rattle.std.specs.Prelude.{◌≡◌, [], ◌∷◌, Ok, Some, None}
-use Rattle.std.proofs.Common.{lit<}
 use Rattle.words.specs.declared.address.Page.{Page}
 use Rattle.words.specs.Points.{at}
 use Rattle.words.specs.Reading.{translation}
@@ -17,9 +16,6 @@ use Rattle.law.specs.Refusals.{settle_refusals, touch_refusals}
 abbrev pub with_pages : Mapping → PageMap
 with_pages m = record { pages = m; fills = λ p. None }
 
-abbrev pub page_0x41 : Page
-page_0x41 = record { number = 0x41; within = lit< tt }
-
 -- nothing is mapped, and the page 0x41 waits for the frame 0x1001
 abbrev pub waiting : PageMap
 waiting = record { pages = unmapped; fills = at (λ p. None) 0x41 (Some 0x1001) }
@@ -27,7 +23,7 @@ waiting = record { pages = unmapped; fills = at (λ p. None) 0x41 (Some 0x1001) 
 pub record WorkedExamples : Type 0 where
   pub formats : Examples
   -- the page 0x41 is begun on the frame 0x1001 and settled with the attributes 3
-  pub settled : after nothing (Begin 0x41034 (Ok 0x1001) ∷ Settle page_0x41 0x1001 3 (Ok 0x1001) ∷ []) ≡ with_pages (single 0x1001)
+  pub settled : (p : Page) → p.number ≡ 0x41 → after nothing (Begin 0x41034 (Ok 0x1001) ∷ Settle p 0x1001 3 (Ok 0x1001) ∷ []) ≡ with_pages (single 0x1001)
   pub protect : next (with_pages whole) (Protect 0x41000 1 (Ok 3)) ≡ with_pages protected
   pub protect_back : next (with_pages protected) (Protect 0x41000 3 (Ok 1)) ≡ with_pages restored
   pub release : next (with_pages restored) (Release 0x41000 (Ok (translation 0x1001 3))) ≡ with_pages released
