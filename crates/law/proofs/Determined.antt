@@ -22,7 +22,7 @@ use Rattle.table.specs.declared.fault.ProtectFault.{ProtectFault}
 use Rattle.table.specs.declared.fault.ProtectFault.TheVariants as protect
 use Rattle.table.specs.Faults.{protect_number, not_mapped_number}
 use Rattle.table.specs.Calls.{mapped_refusals, protect_refusals}
-use Rattle.table.specs.Refusals.{First, Accepted}
+use Rattle.words.specs.Refusals.{First, Accepted}
 use Rattle.law.specs.declared.calls.Mark.{Mark}
 use Rattle.law.specs.declared.calls.Mark.TheVariants.{Hit, Walked}
 use Rattle.law.specs.declared.calls.Touched.{Touched}

@@ -7,7 +7,7 @@ use Rattle.words.specs.Blocks.{Mapping}
 use Rattle.words.specs.Examples.{Examples, single, whole, protected, restored, released}
 use Rattle.blocks.specs.Blocks.{UsedBlocks, RowedBlocks}
 use Rattle.table.specs.Calls.{unmapped, protect_refusals}
-use Rattle.table.specs.Refusals.{First, Accepted}
+use Rattle.words.specs.Refusals.{First, Accepted}
 use Rattle.law.specs.declared.calls.Event.TheVariants.{Begin, Settle, Release, Protect}
 use Rattle.law.specs.PageMap.{PageMap, nothing, next, after}
 use Rattle.law.specs.Refusals.{settle_refusals, touch_refusals}

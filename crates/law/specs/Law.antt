@@ -11,7 +11,7 @@ use Rattle.blocks.specs.Blocks.{Walks}
 use Rattle.fills.specs.Fills.{WaitingPages}
 use Rattle.table.specs.Calls.{Counts, mapped_refusals, protect_refusals}
 use Rattle.table.specs.Faults.{protect_number, not_mapped_number}
-use Rattle.table.specs.Refusals.{First, Accepted}
+use Rattle.words.specs.Refusals.{First, Accepted}
 use Rattle.fills.specs.Faults.{no_fill_number}
 use Rattle.law.specs.declared.calls.Mark.{Mark}
 use Rattle.law.specs.declared.calls.Mark.TheVariants.{Hit, Walked}

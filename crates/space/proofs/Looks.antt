@@ -25,7 +25,7 @@ use Rattle.frames.specs.Meaning.{FramesMeaning}
 use Rattle.table.specs.declared.fault.NotMapped.{NotMapped}
 use Rattle.table.specs.Calls.{mapped_refusals}
 use Rattle.table.specs.Faults.{not_mapped_number}
-use Rattle.table.specs.Refusals.{First}
+use Rattle.words.specs.Refusals.{First}
 use Rattle.table.specs.Table.{mapping}
 use Rattle.law.specs.declared.calls.Event.TheVariants.{Touch, Walk}
 use Rattle.law.specs.declared.calls.Mark.{Mark}

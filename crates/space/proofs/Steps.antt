@@ -27,7 +27,7 @@ use Rattle.table.specs.declared.fault.MapFault.TheVariants as map
 use Rattle.table.specs.declared.fault.ProtectFault.{ProtectFault}
 use Rattle.table.specs.Faults.{map_number, protect_number}
 use Rattle.table.specs.Calls.{mapped, released, protected, map_refusals, protect_refusals}
-use Rattle.table.specs.Refusals.{First, Accepted}
+use Rattle.words.specs.Refusals.{First, Accepted}
 use Rattle.table.specs.Table.{mapping}
 use Rattle.table.proofs.Tables.{is_mapped}
 use Rattle.law.specs.declared.calls.Event.{Event}

@@ -15,7 +15,7 @@ use Rattle.table.specs.declared.events.Call.TheVariants.{Unmap, Walk}
 use Rattle.table.specs.declared.fault.NotMapped.{NotMapped}
 use Rattle.table.specs.Calls.{unmapped, released, mapped_refusals}
 use Rattle.table.specs.Faults.{not_mapped_number}
-use Rattle.table.specs.Refusals.{First, Accepted}
+use Rattle.words.specs.Refusals.{First, Accepted}
 use Rattle.table.specs.Replay.{refusals, done, next, Right, Performs, fed, AllRight}
 use Rattle.table.specs.Table.{mapping}
 

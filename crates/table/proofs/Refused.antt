@@ -14,7 +14,7 @@ use Rattle.blocks.specs.declared.fault.NoRoom.TheVariants.{NoNode, NoRow}
 use Rattle.blocks.specs.Blocks.{Refuses, Sets, RowsOut}
 use Rattle.blocks.specs.Faults.{room_number}
 use Rattle.table.specs.Calls.{protected, map_refusals, protect_refusals}
-use Rattle.table.specs.Refusals.{First, Accepted}
+use Rattle.words.specs.Refusals.{First, Accepted}
 
 none_mapped : (m : Mapping) (p : ℕ) → m p ≡ None → IsMapped m p → ⊥
 none_mapped m p e (t, i) = both_ways _ (ap is_some (sym i ∙ e)) refl

@@ -1,5 +1,4 @@
 pub mod Faults
-pub mod Refusals
 pub mod Calls
 pub mod Table
 pub mod Replay

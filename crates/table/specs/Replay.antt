@@ -5,7 +5,7 @@ use Rattle.table.specs.declared.events.Call.{Call}
 use Rattle.table.specs.declared.events.Call.TheVariants.{Map, Unmap, Protect, Walk, Census}
 use Rattle.table.specs.declared.events.Event.{Event}
 use Rattle.table.specs.Calls.{unmapped, mapped, protected, released, map_refusals, mapped_refusals, protect_refusals}
-use Rattle.table.specs.Refusals.{First, Accepted}
+use Rattle.words.specs.Refusals.{First, Accepted}
 
 abbrev pub refusals : Mapping → Call → List (Type 0 × ℕ)
 refusals m (Map p t) = map_refusals m p.number t

@@ -4,7 +4,7 @@ ghost use Rattle.chains.specs.Counting.{how_many};
 ghost use Rattle.blocks.specs.Blocks.{held, Walks};
 ghost use Rattle.table.specs.Calls.{mapped, protected, released, map_refusals, mapped_refusals, protect_refusals, Counts};
 ghost use Rattle.table.specs.Faults.{map_number, protect_number, not_mapped_number};
-ghost use Rattle.table.specs.Refusals.{First, Accepted};
+ghost use Rattle.words.specs.Refusals.{First, Accepted};
 
 use crate::fault::{MapFault, NotMapped, ProtectFault};
 use blocks::{Blocks, Walked};

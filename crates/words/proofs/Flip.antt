@@ -1,10 +1,10 @@
 -- Bits of numbers: one set, some cleared.
-use Rattle.std.proofs.Common.{◌≡◌, ℕ, zero, suc, ◌+◌, ◌-◌, ◌*◌, ◌/◌, ◌%◌, ◌^◌, ◌<◌, ◌≤◌, true, false, not, ◌&&◌, ◌||◌, eqb, sym, refl, ap, ◌∙◌, ap₂, ⊎_elim, mul_comm, one-mul, pow-suc, zero-add, arith}
+use Rattle.std.proofs.Common.{◌≡◌, ℕ, zero, suc, ◌+◌, ◌-◌, ◌*◌, ◌/◌, ◌%◌, ◌^◌, ◌<◌, ◌≤◌, true, false, Bool, MatchBool, not, ◌&&◌, ◌||◌, eqb, nat_eq, sym, refl, ap, ◌∙◌, ap₂, ⊎_elim, mul_comm, one-mul, pow-suc, zero-add, arith}
 use native.Mathlib.Nat.{add-mul-div_right, div-eq_of_lt, zero-div}
 use lib.Bits.{bit_and, bit_or, and_shr, and_mod}
-use Rattle.std.proofs.lemmas.Bool.{cases_order, cases_lt, cases_eq, eqb-true, eqb-false, ne_eqb, eq-eqb}
+use Rattle.std.proofs.lemmas.Bool.{cases_order, cases_lt, cases_eq, eqb-true, eqb-false, ne_eqb, eq-eqb, both_ways, and_parts, and_from}
 use Rattle.std.proofs.lemmas.Nat.{pow_pos, pow-add, pow_below, shr-shr, and_le_l, or_shr, or_mod}
-use Rattle.words.specs.Layout.{bit}
+use Rattle.words.specs.Layout.{bit, Meet}
 
 at_o : (m o : ℕ) → (m + 2 ^ o) / 2 ^ o ≡ m / 2 ^ o + 1
 at_o m o = let e : (m + 1 * 2 ^ o) / 2 ^ o ≡ m / 2 ^ o + 1 = add-mul-div_right m 1 (pow_pos o) in rw one-mul at e
@@ -123,3 +123,39 @@ joined_bit n m k =
     both (suc (suc x)) y p q = absurd (omega arith)
     both zero (suc (suc y)) p q = absurd (omega arith)
     both (suc zero) (suc (suc y)) p q = absurd (omega arith)
+
+-- the bits that both n and m have
+pub common_bit : (n m k : ℕ) → bit (bit_and n m) k ≡ (bit n k && bit m k)
+common_bit n m k =
+    ap (λ x. eqb x 1) (ap (λ x. x % 2) (and_shr n m k) ∙ and_mod (n / 2 ^ k) (m / 2 ^ k) 1)
+    ∙ both (n / 2 ^ k % 2) (m / 2 ^ k % 2) (omega arith) (omega arith)
+  where
+    both : (x y : ℕ) → x < 2 → y < 2 → eqb (bit_and x y) 1 ≡ (eqb x 1 && eqb y 1)
+    both zero zero p q = refl
+    both zero (suc zero) p q = refl
+    both (suc zero) zero p q = refl
+    both (suc zero) (suc zero) p q = refl
+    both (suc (suc x)) y p q = absurd (omega arith)
+    both zero (suc (suc y)) p q = absurd (omega arith)
+    both (suc zero) (suc (suc y)) p q = absurd (omega arith)
+
+-- a number below a power that is not zero has a bit
+pub some_bit : (w n : ℕ) → n < 2 ^ w → 0 < n → (k : ℕ) × (bit n k ≡ true)
+some_bit zero n h p = absurd (omega arith)
+some_bit (suc w) n h p = ⊎_elim (λ e. (0, eq-eqb _ 1 (omega arith))) (λ ne. next (some_bit w (n / 2) (let q = pow-suc 2 w in omega arith) (omega arith))) (cases_eq (n % 2) 1)
+  where
+    next : ((k : ℕ) × (bit (n / 2) k ≡ true)) → (k : ℕ) × (bit n k ≡ true)
+    next (k, e) = (1 + k, ap (λ x. eqb (x % 2) 1) (sym (shr-shr n 1 k)) ∙ e)
+
+pub meeting : (w n m : ℕ) → n < 2 ^ w → MatchBool (not (nat_eq (bit_and n m) 0)) (Meet n m) (Meet n m → ⊥)
+meeting w n m h = each (nat_eq (bit_and n m) 0) refl
+  where
+    found : ((k : ℕ) × (bit (bit_and n m) k ≡ true)) → Meet n m
+    found (k, e) = let (i, j) = and_parts (bit n k) (bit m k) (sym (common_bit n m k) ∙ e) in (k, i, j)
+
+    none : bit_and n m ≡ 0 → Meet n m → ⊥
+    none z (k, i, j) = both_ways _ (ap (λ x. bit x k) z ∙ no_bit k) (common_bit n m k ∙ and_from _ _ i j)
+
+    each : (b : Bool) → nat_eq (bit_and n m) 0 ≡ b → MatchBool (not b) (Meet n m) (Meet n m → ⊥)
+    each true e = none (eqb-true (bit_and n m) 0 e)
+    each false e = let a = and_le_l n m in found (some_bit w (bit_and n m) (omega arith) (let q = eqb-false (bit_and n m) 0 e in omega arith))

@@ -1,5 +1,5 @@
 -- Where the parts of an address and of a mapping word stand, as quotients and remainders of plain numbers.
-use Rattle.std.specs.Prelude.{◌≡◌, ℕ, ◌+◌, ◌*◌, ◌/◌, ◌%◌, ◌^◌, Bool, not, ◌&&◌, ◌||◌, ◌==◌, nat_lt}
+use Rattle.std.specs.Prelude.{◌≡◌, ℕ, ◌+◌, ◌*◌, ◌/◌, ◌%◌, ◌^◌, Bool, true, not, ◌&&◌, ◌||◌, ◌==◌, nat_lt}
 
 -- a page has 4,096 bytes, a block sixteen pages
 abbrev pub page_of : ℕ → ℕ
@@ -22,6 +22,10 @@ page_at b o = b * 16 + o
 -- bit k of a number
 abbrev pub bit : ℕ → ℕ → Bool
 bit n k = n / 2 ^ k % 2 == 1
+
+-- some offset is in both sets of offsets, given by their bits
+abbrev pub Meet : ℕ → ℕ → Type 0
+Meet os qs = (k : ℕ) × (bit os k ≡ true) × (bit qs k ≡ true)
 
 -- a compact word has one bit for each offset from bit 48 on, the frame block from bit 16 on, the attributes from bit 0 on
 abbrev pub compact_word : ℕ → ℕ → ℕ → ℕ

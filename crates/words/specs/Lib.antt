@@ -1,5 +1,6 @@
 pub mod Made
 pub mod Points
+pub mod Refusals
 pub mod Layout
 pub mod Access
 pub mod Faults

@@ -1,6 +1,6 @@
 // Sets of the sixteen offsets of a block.
-ghost use Rattle.std.specs.Prelude.{◌≡◌, ℕ, ◌^◌, ◌≤◌, false, not, ◌&&◌, ◌||◌, ◌==◌, bit_and};
-ghost use Rattle.words.specs.Layout.{bit};
+ghost use Rattle.std.specs.Prelude.{◌≡◌, ℕ, ◌^◌, ◌≤◌, false, not, ◌&&◌, ◌||◌, ◌==◌, MatchBool};
+ghost use Rattle.words.specs.Layout.{bit, Meet};
 
 use crate::address::Offset;
 
@@ -34,7 +34,7 @@ impl OffsetSet {
 
     // Whether some offset is in both sets.
     pub fn meets(self, other: OffsetSet) -> bool
-        ensures { result ≡ not (bit_and self.bits other.bits == 0) }
+        ensures { MatchBool result (Meet self.bits other.bits) (Meet self.bits other.bits → ⊥) }
     {
         self.bits & other.bits != 0
     }

@@ -1,7 +1,7 @@
 use Rattle.std.proofs.Common.{sym, refl, ◌∙◌, subst, arith}
 use Rattle.table.specs.Calls.{map_refusals}
 use Rattle.table.specs.Faults.{map_number}
-use Rattle.table.specs.Refusals.{First}
+use Rattle.words.specs.Refusals.{First}
 use Rattle.table.specs.Table.{mapping}
 use Rattle.table.proofs.Refused.{refused_as, map_refused, map_accepted}
 use Rattle.table.proofs.Tables.{is_mapped, not_mapped, same_table, added_count}
