@@ -1,32 +1,32 @@
--- Which pages wait, each for which frame.
-use Rattle.std.specs.Prelude.{◌≡◌, ℕ, ◌^◌, Some, None, Option}
-use Rattle.words.specs.Points.{at}
+-- Which pages wait, each with its fill, and what the list of fills refuses.
+use Rattle.std.specs.Prelude.{◌≡◌, ◌≢◌, ℕ, ◌^◌, List, [], ◌∷◌, Some, Option}
 use Rattle.chains.specs.Counting.{Exactly}
-use Rattle.fills.specs.declared.fault.AddFault.{AddFault}
-use Rattle.fills.specs.declared.fault.AddFault.TheVariants.{Waiting, TooMany}
+use Rattle.fills.specs.declared.underway.Underway.{Underway}
 use Rattle.fills.specs.declared.fills.Fills.{Fills}
-use Rattle.fills.specs.Lists.{frame_for}
+use Rattle.fills.specs.Lists.{first_fill}
 
--- the frame that was taken for a page, where it waits
-abbrev pub waits : Fills → ℕ → Option ℕ
-waits s = frame_for s.waiting.items
+-- for each page its fill, where it has one under way
+abbrev pub Waits : Type 0
+Waits = ℕ → Option Underway
 
-abbrev pub Waits : (ℕ → Option ℕ) → ℕ → Type 0
-Waits m p = (f : ℕ) × (m p ≡ Some f)
+-- the fill that takes the frame
+abbrev pub underway : ℕ → Underway
+underway frame = record { frame = frame }
+
+abbrev pub fill_of : Fills → Waits
+fill_of fills = first_fill fills.waiting.items
+
+abbrev pub IsWaiting : Waits → ℕ → Type 0
+IsWaiting waits page = (fill : Underway) × (waits page ≡ Some fill)
 
 -- exactly n pages wait
-abbrev pub WaitingPages : (ℕ → Option ℕ) → ℕ → Type 0
-WaitingPages m n = Exactly n (2 ^ 52) (Waits m)
+abbrev pub WaitingPages : Waits → ℕ → Type 0
+WaitingPages waits n = Exactly n (2 ^ 52) (IsWaiting waits)
 
--- a fill is not taken in: its page waits already; or it does not, and 32 pages wait
-abbrev pub Refuses : AddFault → (ℕ → Option ℕ) → ℕ → Type 0
-Refuses Waiting m p = Waits m p
-Refuses TooMany m p = (m p ≡ None) × WaitingPages m 32
+-- what is refused, in this order
+abbrev pub add_refusals : Waits → ℕ → List (Type 0 × ℕ)
+add_refusals waits page = (IsWaiting waits page, 2) ∷ (WaitingPages waits 32, 3) ∷ []
 
--- a fill of the page may be taken in: the page does not wait, and fewer than 32 do
-abbrev pub Admits : (ℕ → Option ℕ) → ℕ → Type 0
-Admits m p = (m p ≡ None) × (WaitingPages m 32 → ⊥)
-
--- a fill was taken in
-abbrev pub Adds : (ℕ → Option ℕ) → ℕ → ℕ → (ℕ → Option ℕ) → Type 0
-Adds m p f n = Admits m p × (n ≡ at m p (Some f))
+-- a fill is compared whole
+abbrev pub remove_refusals : Waits → ℕ → Underway → List (Type 0 × ℕ)
+remove_refusals waits page fill = (waits page ≢ Some fill, 6) ∷ []

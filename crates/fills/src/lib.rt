@@ -1,10 +1,10 @@
-// The fills under way: pages that wait for their translation, each with the frame that was taken for it.
+// The fills under way: pages that wait for their translation, each with what is kept of its fill.
 #![tactic(auto)]
 
 mod fault;
 mod fills;
-mod waiting;
+mod underway;
 
 pub use fault::{AddFault, NoFill};
 pub use fills::Fills;
-pub use waiting::Waiting;
+pub use underway::{Underway, Waiting};

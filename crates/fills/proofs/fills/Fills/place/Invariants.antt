@@ -1,5 +1,5 @@
 use Rattle.std.proofs.Common.{◌≡◌, ℕ, ◌<◌, get_or}
-use Rattle.fills.specs.declared.waiting.Waiting.{Waiting}
+use Rattle.fills.specs.declared.underway.Waiting.{Waiting}
 use Rattle.fills.proofs.fills.Fills.place.Given as goal
 
 abbrev pub invariant-loop-i : goal.invariant-loop-i

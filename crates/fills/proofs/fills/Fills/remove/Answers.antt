@@ -1,15 +1,23 @@
-use Rattle.std.proofs.Common.{Some, get_or, refl, sym, ap, ◌∙◌, arith}
-use Rattle.fills.specs.Lists.{frame_for, once}
-use Rattle.fills.proofs.Lists.{found_at, some_frames, frame_removed, once_removed}
+use Rattle.std.proofs.Common.{Some, get_or, not, refl, sym, ap, ◌∙◌, arith}
+use Rattle.std.proofs.lemmas.Bool.{both_ways, eq-eqb, eqb-true, not-false}
+use Rattle.fills.specs.declared.underway.Underway.{Underway}
+use Rattle.fills.specs.Fills.{underway}
+use Rattle.fills.specs.Lists.{first_fill, once}
+use Rattle.std.proofs.lemmas.Option.{same_Some}
+use Rattle.fills.proofs.Lists.{found_at, fill_removed, once_removed}
 use Rattle.fills.proofs.fills.Fills.remove.Goals as goal
 
-pub returns-then-deref-place : goal.returns-then-deref-place
-returns-then-deref-place c =
+pub returns-then-ne : goal.returns-then-ne
+returns-then-ne c =
     let s = c.args.self.now in
     let i = c.in_ok-place.place in
     let d = c.index-deref-place.result in
-    let (_, _, found) = found_at s.waiting.items c.args.page.number c.place.result i d s.once c.place.ensures c.in_ok-place.ensures.ok_part in
-    (λ e. c.if-deref-place.true (ap (λ ws. (get_or ws i d).frame) c.deref.ensures.0 ∙ some_frames _ _ _ found e), refl)
+    let (_, _, found) = found_at s.waiting.items c.args.page.number c.place.result i d s.once c.place.ensures c.in_ok-place.ensures.ok_part in (
+      (λ e. both_ways _
+          (c.ne.ensures ∙ ap not (eq-eqb _ _ (ap (λ ws. (get_or ws i d).underway.frame) c.deref.ensures.0 ∙ ap (λ (u : Underway). u.frame) (same_Some _ _ (sym found ∙ e)))))
+          c.if-ne.true),
+      refl,
+    )
 
 pub invariant_of-self : goal.invariant_of-self
 invariant_of-self c =
@@ -23,4 +31,5 @@ returns c =
     let i = c.in_ok-place.place in
     let d = c.index-deref-place.result in
     let (l, q, found) = found_at s.waiting.items c.args.page.number c.place.result i d s.once c.place.ensures c.in_ok-place.ensures.ok_part in
-    (found ∙ ap Some (ap (λ ws. (get_or ws i d).frame) (sym c.deref.ensures.0) ∙ c.if-deref-place.false), ap frame_for c.remove.ensures.items ∙ frame_removed s.waiting.items i d c.args.page.number s.once l q)
+    let frames = ap (λ ws. (get_or ws i d).underway.frame) (sym c.deref.ensures.0) ∙ eqb-true _ _ (not-false _ (sym c.ne.ensures ∙ c.if-ne.false)) in
+    (found ∙ ap (λ f. Some (underway f)) frames, ap first_fill c.remove.ensures.items ∙ fill_removed s.waiting.items i d c.args.page.number s.once l q)
