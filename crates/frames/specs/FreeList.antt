@@ -1,8 +1,10 @@
 -- What the free list means.
 use Rattle.std.specs.Prelude.{◌≡◌, ℕ, ◌+◌, ◌-◌, ◌*◌, Bool, false, ◌&&◌, List, [], ◌∷◌, map, reverse, MatchResult, slice_index_or}
+use Rattle.words.specs.Refusals.{First}
 use Rattle.frames.specs.declared.free_list.FreeListAllocator.{FreeListAllocator}
+use Rattle.frames.specs.Faults.{allocate_number, free_number}
 use Rattle.frames.specs.Lists.{rising}
-use Rattle.frames.specs.Meaning.{FramesMeaning}
+use Rattle.frames.specs.Meaning.{FramesMeaning, free_refusals}
 use Rattle.frames.specs.Stock.{first_frame, in_stock}
 
 -- the free frames, from the head on
@@ -21,10 +23,15 @@ pub record NewList (g : ℕ) (u : FreeListAllocator) : Type 0 where
   pub free : free_frames u ≡ rising (16 * g) 4096
   pub none : (f : ℕ) → list_out u f ≡ false
 
+-- the head goes out, and what comes in is the head; an empty list refuses, and a refused call changes nothing
 abbrev pub free_list : FramesMeaning FreeListAllocator
 free_list = record {
   stock = list_stock;
   out = list_out;
-  allocated = λ s p r u. MatchResult r (λ f. free_frames s ≡ f ∷ free_frames u) (λ e. (free_frames s ≡ []) × (u ≡ s));
-  freed = λ s f r u. MatchResult r (λ x. free_frames u ≡ f ∷ free_frames s) (λ e. u ≡ s);
+  allocated = λ s p r u. MatchResult r
+      (λ f. free_frames s ≡ f ∷ free_frames u)
+      (λ e. First ((free_frames s ≡ [], 4) ∷ []) (allocate_number e) × (u ≡ s));
+  freed = λ s f r u. MatchResult r
+      (λ _. free_frames u ≡ f ∷ free_frames s)
+      (λ e. First (free_refusals list_out s f) (free_number e) × (u ≡ s));
 }

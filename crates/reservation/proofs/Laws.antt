@@ -2,6 +2,7 @@
 use Rattle.std.proofs.Common.{◌≡◌, ℕ, true, false, eqb, Ok, Err, sym, refl, ap, ◌∙◌, subst, ⊎_elim, arith}
 use Rattle.std.proofs.lemmas.Bool.{both_ways, eqb-true, ne_eqb, not-false, not_from_false, and_from, and_parts, ltb-true, cases_Bool, cases_eq, cases_order}
 use Rattle.words.specs.Layout.{bit, block_of, offset_of}
+use Rattle.frames.specs.declared.fault.AllocateFault.TheVariants.{AllOut}
 use Rattle.reservation.specs.declared.group.Group.{Group}
 use Rattle.reservation.specs.declared.group.Step.{Step}
 use Rattle.reservation.specs.declared.group.Step.TheVariants.{Kept, Reserves, Spare, Breaks, BreaksOldest}
@@ -45,7 +46,7 @@ open_group_gives_offset s u p g (Ok f) o none (c, chosen, taken) =
       kept_at_offset s u p f c chosen taken (ap own_group t),
       ap (λ x. block_use (block_of p) (group_of u x).usage) e ∙ subst (λ x. UsedAs p x (group_of u c.spot.group).usage) t taken.usage,
     )
-open_group_gives_offset s u p g (Err e) o none (all, same) = absurd (
+open_group_gives_offset s u p g (Err AllOut) o none (all, same) = absurd (
     let z = eqb-true (group_of s g).out.bits 0 (sym (s.used g) ∙ o) in
     let l = eqb-true (group_of s g).out.bits 65535 (not-false _ (all g)) in
     omega arith)

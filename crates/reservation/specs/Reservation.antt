@@ -1,7 +1,9 @@
 -- What the reservation allocator means, by its groups and the order in which they were reserved.
-use Rattle.std.specs.Prelude.{◌≡◌, ℕ, ◌+◌, ◌-◌, ◌*◌, ◌/◌, ◌%◌, ◌<◌, Bool, true, false, ◌&&◌, MatchBool, MatchResult, ◌≢◌, nat_lt}
+use Rattle.std.specs.Prelude.{◌≡◌, ℕ, ◌+◌, ◌-◌, ◌*◌, ◌/◌, ◌%◌, ◌<◌, Bool, true, false, ◌&&◌, [], ◌∷◌, MatchBool, MatchResult, ◌≢◌, nat_lt}
 use Rattle.words.specs.Layout.{bit, block_of, offset_of}
-use Rattle.frames.specs.Meaning.{FramesMeaning}
+use Rattle.words.specs.Refusals.{First}
+use Rattle.frames.specs.Faults.{allocate_number, free_number}
+use Rattle.frames.specs.Meaning.{FramesMeaning, free_refusals}
 use Rattle.frames.specs.Stock.{first_frame, in_stock}
 use Rattle.reservation.specs.declared.group.Choice.{Choice}
 use Rattle.reservation.specs.declared.group.Group.{Group}
@@ -118,12 +120,17 @@ pub record CameIn (s : ReservationAllocator) (g k : ℕ) (u : ReservationAllocat
   pub returned : Returned (group_of s g) k (group_of u g)
   pub order : MatchBool (is_open (group_of u g)) (older u ≡ taken_out (older s) g) (older u ≡ older s)
 
+-- a frame goes out by a choice for its page, and comes in to its group; a refused call changes nothing
 abbrev pub reservation : FramesMeaning ReservationAllocator
 reservation = record {
   stock = group_stock;
   out = group_out;
-  allocated = λ s p r u. MatchResult r (λ f. (c : Choice) × Chosen s p c × Taken s p c f u) (λ e. NoneIn s × (u ≡ s));
-  freed = λ s f r u. MatchResult r (λ x. CameIn s (group_at s f) (offset_at s f) u) (λ e. u ≡ s);
+  allocated = λ s p r u. MatchResult r
+      (λ f. (c : Choice) × Chosen s p c × Taken s p c f u)
+      (λ e. First ((NoneIn s, 4) ∷ []) (allocate_number e) × (u ≡ s));
+  freed = λ s f r u. MatchResult r
+      (λ _. CameIn s (group_at s f) (offset_at s f) u)
+      (λ e. First (free_refusals group_out s f) (free_number e) × (u ≡ s));
 }
 
 -- a new allocator has the frames from 16 * g on, and every group is open
