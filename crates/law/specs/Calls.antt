@@ -5,11 +5,11 @@ use Rattle.law.specs.declared.calls.Event.{Event}
 use Rattle.law.specs.declared.calls.Event.TheVariants.{Begin, Settle, Abandon, Release, Protect, Touch, Walk, Census}
 
 abbrev pub call_of : Event → Call
-call_of (Begin a r) = call.Begin a
-call_of (Settle p f x r) = call.Settle p f x
-call_of (Abandon p f r) = call.Abandon p f
-call_of (Release a r) = call.Release a
-call_of (Protect a x r) = call.Protect a x
-call_of (Touch a x r) = call.Touch a x
-call_of (Walk a r) = call.Walk a
-call_of (Census c) = call.Census
+call_of (Begin address answer) = call.Begin address
+call_of (Settle page fill attributes answer) = call.Settle page fill attributes
+call_of (Abandon page fill answer) = call.Abandon page fill
+call_of (Release address answer) = call.Release address
+call_of (Protect address attributes answer) = call.Protect address attributes
+call_of (Touch address access answer) = call.Touch address access
+call_of (Walk address answer) = call.Walk address
+call_of (Census answer) = call.Census

@@ -8,6 +8,10 @@ use Rattle.law.specs.declared.fault.BeginFault.{BeginFault}
 use Rattle.law.specs.declared.fault.BeginFault.TheVariants as begin
 use Rattle.law.specs.declared.fault.SettleFault.{SettleFault}
 use Rattle.law.specs.declared.fault.SettleFault.TheVariants as settle
+use Rattle.law.specs.declared.fault.AbandonFault.{AbandonFault}
+use Rattle.law.specs.declared.fault.AbandonFault.TheVariants as abandon
+use Rattle.law.specs.declared.fault.ReleaseFault.{ReleaseFault}
+use Rattle.law.specs.declared.fault.ReleaseFault.TheVariants as release
 use Rattle.law.specs.declared.fault.TouchFault.{TouchFault}
 use Rattle.law.specs.declared.fault.TouchFault.TheVariants as touch
 
@@ -22,6 +26,12 @@ settle_number settle.BadAttributes = 5
 settle_number settle.NoFill = 6
 settle_number settle.NoNode = 7
 settle_number settle.NoRow = 8
+
+abbrev pub abandon_number : AbandonFault → ℕ
+abandon_number abandon.NoFill = 6
+
+abbrev pub release_number : ReleaseFault → ℕ
+release_number release.NotMapped = 9
 
 abbrev pub touch_number : TouchFault → ℕ
 touch_number touch.BadAccess = 10
@@ -49,6 +59,12 @@ settle_reason settle.BadAttributes = codes "attributes over 4095"
 settle_reason settle.NoFill = codes "no such fill is under way"
 settle_reason settle.NoNode = codes "all nodes are linked"
 settle_reason settle.NoRow = codes "all rows are in use"
+
+abbrev pub abandon_reason : AbandonFault → List ℕ
+abandon_reason abandon.NoFill = codes "no such fill is under way"
+
+abbrev pub release_reason : ReleaseFault → List ℕ
+release_reason release.NotMapped = codes "the page is not mapped"
 
 abbrev pub touch_reason : TouchFault → List ℕ
 touch_reason touch.BadAccess = codes "no such access"

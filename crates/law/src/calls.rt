@@ -2,8 +2,8 @@
 ghost use Rattle.std.specs.Prelude.{◌≡◌};
 ghost use Rattle.law.specs.Calls.{call_of};
 
-use crate::fault::{BeginFault, SettleFault, TouchFault};
-use fills::NoFill;
+use crate::fault::{AbandonFault, BeginFault, ReleaseFault, SettleFault, TouchFault};
+use fills::Underway;
 use table::{NotMapped, ProtectFault, Walked};
 use words::{Page, Translation};
 
@@ -11,7 +11,7 @@ use words::{Page, Translation};
 #[derive(Clone, Copy, PartialEq, Eq, Debug)]
 pub enum Mark {
     Hit,
-    Walked,
+    Missed,
 }
 
 // The physical address of an access, and where its translation came from.
@@ -30,12 +30,12 @@ pub struct Census {
     pub fills: usize,
 }
 
-// A call with its arguments: addresses, and the page and the frame of a fill, whether or not there is such a fill.
+// A call with its arguments: addresses, and the page of a fill with what is kept of it, whether or not there is such a fill.
 #[derive(Clone, Copy, PartialEq, Eq, Debug)]
 pub enum Call {
     Begin(u64),
-    Settle(Page, u32, u16),
-    Abandon(Page, u32),
+    Settle(Page, Underway, u16),
+    Abandon(Page, Underway),
     Release(u64),
     Protect(u64, u16),
     Touch(u64, u8),
@@ -49,10 +49,10 @@ pub enum Event {
     // the frame of the fill
     Begin(u64, Result<u32, BeginFault>),
     // the frame
-    Settle(Page, u32, u16, Result<u32, SettleFault>),
+    Settle(Page, Underway, u16, Result<u32, SettleFault>),
     // the frame
-    Abandon(Page, u32, Result<u32, NoFill>),
-    Release(u64, Result<Translation, NotMapped>),
+    Abandon(Page, Underway, Result<u32, AbandonFault>),
+    Release(u64, Result<Translation, ReleaseFault>),
     // the former attributes
     Protect(u64, u16, Result<u16, ProtectFault>),
     Touch(u64, u8, Result<Touched, TouchFault>),
@@ -67,8 +67,10 @@ impl Event {
     {
         match self {
             Event::Begin(address, _) => Call::Begin(address),
-            Event::Settle(page, frame, attributes, _) => Call::Settle(page, frame, attributes),
-            Event::Abandon(page, frame, _) => Call::Abandon(page, frame),
+            Event::Settle(page, underway, attributes, _) => {
+                Call::Settle(page, underway, attributes)
+            }
+            Event::Abandon(page, underway, _) => Call::Abandon(page, underway),
             Event::Release(address, _) => Call::Release(address),
             Event::Protect(address, attributes, _) => Call::Protect(address, attributes),
             Event::Touch(address, access, _) => Call::Touch(address, access),

@@ -1,12 +1,14 @@
-// Why a call of an address space is refused. `fills::NoFill`, `table::NotMapped` and `table::ProtectFault` are the faults of the other calls.
+// Why a call of an address space is refused. `table::ProtectFault` is the fault of a protect, `table::NotMapped` that of a walk.
 ghost use Rattle.std.specs.Prelude.{◌≡◌, Some};
-ghost use Rattle.law.specs.Faults.{begin_number, settle_number, touch_number, begin_reason, settle_reason, touch_reason, BeginFromAdd, SettleFromMap};
+ghost use Rattle.law.specs.Faults.{begin_number, settle_number, abandon_number, release_number, touch_number, begin_reason, settle_reason, abandon_reason, release_reason, touch_reason, BeginFromAdd, SettleFromMap};
 ghost use Rattle.law.specs.declared.fault.BeginFault.TheVariants.{NoFrame};
 ghost use Rattle.law.specs.declared.fault.SettleFault.TheVariants as settle;
+ghost use Rattle.law.specs.declared.fault.AbandonFault.TheVariants as abandon;
+ghost use Rattle.law.specs.declared.fault.ReleaseFault.TheVariants as release;
 ghost use Rattle.law.specs.declared.fault.TouchFault.TheVariants as touch;
 
 use fills::{AddFault, NoFill};
-use frames::AllocateFault;
+use frames::{AllocateFault, FreeFault};
 use std::error::Error;
 use std::fmt;
 use table::{MapFault, NotMapped};
@@ -36,6 +38,19 @@ pub enum SettleFault {
     NoNode,
     // No compact word can have the block's pages then, it has no row, and all rows are in use.
     NoRow,
+}
+
+// Why a fill is not abandoned.
+#[derive(Clone, Copy, PartialEq, Eq, Debug)]
+pub enum AbandonFault {
+    // No fill with this page and frame is under way here.
+    NoFill,
+}
+
+// Why a page is not released.
+#[derive(Clone, Copy, PartialEq, Eq, Debug)]
+pub enum ReleaseFault {
+    NotMapped,
 }
 
 // Why an access has no physical address.
@@ -90,6 +105,40 @@ impl From<MapFault> for SettleFault {
     }
 }
 
+impl From<NoFill> for AbandonFault {
+    ghost from_gives = { λ _ fault. fault ≡ abandon.NoFill };
+
+    fn from(_fault: NoFill) -> AbandonFault {
+        AbandonFault::NoFill
+    }
+}
+
+// A frame that is not out was taken for no fill.
+impl From<FreeFault> for AbandonFault {
+    ghost from_gives = { λ _ fault. fault ≡ abandon.NoFill };
+
+    fn from(_fault: FreeFault) -> AbandonFault {
+        AbandonFault::NoFill
+    }
+}
+
+impl From<NotMapped> for ReleaseFault {
+    ghost from_gives = { λ _ fault. fault ≡ release.NotMapped };
+
+    fn from(_fault: NotMapped) -> ReleaseFault {
+        ReleaseFault::NotMapped
+    }
+}
+
+// A frame that is not out is behind no page.
+impl From<FreeFault> for ReleaseFault {
+    ghost from_gives = { λ _ fault. fault ≡ release.NotMapped };
+
+    fn from(_fault: FreeFault) -> ReleaseFault {
+        ReleaseFault::NotMapped
+    }
+}
+
 impl From<BadNumber> for TouchFault {
     ghost from_gives = { λ _ fault. fault ≡ touch.BadAccess };
 
@@ -132,6 +181,26 @@ impl From<SettleFault> for u64 {
     }
 }
 
+impl From<AbandonFault> for u64 {
+    ghost from_gives = { λ fault n. n ≡ abandon_number fault };
+
+    fn from(fault: AbandonFault) -> u64 {
+        match fault {
+            AbandonFault::NoFill => 6,
+        }
+    }
+}
+
+impl From<ReleaseFault> for u64 {
+    ghost from_gives = { λ fault n. n ≡ release_number fault };
+
+    fn from(fault: ReleaseFault) -> u64 {
+        match fault {
+            ReleaseFault::NotMapped => 9,
+        }
+    }
+}
+
 impl From<TouchFault> for u64 {
     ghost from_gives = { λ fault n. n ≡ touch_number fault };
 
@@ -170,6 +239,26 @@ impl fmt::Display for SettleFault {
     }
 }
 
+impl fmt::Display for AbandonFault {
+    ghost output = { λ fault. Some (abandon_reason fault) };
+
+    fn fmt<W: fmt::Write>(&self, f: &mut fmt::Formatter<W>) -> fmt::Result {
+        f.write_str(match self {
+            AbandonFault::NoFill => "no such fill is under way",
+        })
+    }
+}
+
+impl fmt::Display for ReleaseFault {
+    ghost output = { λ fault. Some (release_reason fault) };
+
+    fn fmt<W: fmt::Write>(&self, f: &mut fmt::Formatter<W>) -> fmt::Result {
+        f.write_str(match self {
+            ReleaseFault::NotMapped => "the page is not mapped",
+        })
+    }
+}
+
 impl fmt::Display for TouchFault {
     ghost output = { λ fault. Some (touch_reason fault) };
 
@@ -185,5 +274,9 @@ impl fmt::Display for TouchFault {
 impl Error for BeginFault {}
 
 impl Error for SettleFault {}
+
+impl Error for AbandonFault {}
+
+impl Error for ReleaseFault {}
 
 impl Error for TouchFault {}

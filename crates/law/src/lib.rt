@@ -6,5 +6,5 @@ mod fault;
 mod laws;
 
 pub use calls::{Call, Census, Event, Mark, Touched};
-pub use fault::{BeginFault, SettleFault, TouchFault};
+pub use fault::{AbandonFault, BeginFault, ReleaseFault, SettleFault, TouchFault};
 pub use laws::{frames_are_apart, one_right_answer, worked_examples};
