@@ -12,7 +12,7 @@ use Rattle.tlb.specs.declared.entry.Entry.{Entry}
 use Rattle.tlb.specs.declared.two_level.TwoLevelTlb.{TwoLevelTlb}
 use Rattle.tlb.specs.Choices.{kept}
 use Rattle.tlb.specs.Entries.{reaches, entry_says}
-use Rattle.tlb.specs.Meaning.{Same, SameMeaning, TlbMeaning, Within, Loads, Takes}
+use Rattle.tlb.specs.Meaning.{Same, SameMeaning, SamePairs, TlbMeaning, Within, Loads, Takes}
 use Rattle.tlb.specs.TwoLevel.{PageEntry, two_level}
 
 abbrev says : Form → ℕ → ℕ → ℕ → Option Translation
@@ -33,7 +33,7 @@ module _ (e : Entry) (p : ℕ) (t : Translation) (own : PageEntry e p t) where
   -- a TLB that was loaded with the entry has taken it in, and each of its pairs was there or is that of the page
   module _ {X : Type 0} (pairs : X → ℕ → Translation → Type 0) (s u : X) (loads : Loads pairs s e p u) where
     taken : Takes pairs s e p t u
-    taken = subst (λ o. MatchOption o (u ≡ s) (λ x. Takes pairs s e p x u)) says_own loads
+    taken = subst (λ o. MatchOption o (SamePairs pairs s u) (λ x. Takes pairs s e p x u)) says_own loads
 
     pub within_or : (P : ℕ → Translation → Type 0) → ((q : ℕ) (x : Translation) → pairs s q x → P q x) → P p t → (q : ℕ) (x : Translation) → pairs u q x → P q x
     within_or P old new q x h = ⊎_elim (old q x) (λ says. let (i, j) = says_only q x says in rw (i, j) new) (taken.from q x h)

@@ -37,6 +37,10 @@ module _ {X : Type 0} (pairs : X → ℕ → Translation → Type 0) where
   abbrev pub Within : X → X → Type 0
   Within s u = (q : ℕ) (t : Translation) → pairs u q t → pairs s q t
 
+  -- the pairs are the same
+  abbrev pub SamePairs : X → X → Type 0
+  SamePairs s u = (q : ℕ) (t : Translation) → Same (pairs u q t) (pairs s q t)
+
   -- an answer for the page: none exactly when there is no pair of it, else a pair that is still there
   abbrev pub Answers : X → ℕ → Option Translation → X → Type 0
   Answers s p r u = MatchOption r (Lacks s p) (λ t. pairs s p t × pairs u p t)
@@ -47,6 +51,6 @@ module _ {X : Type 0} (pairs : X → ℕ → Translation → Type 0) where
     pub only : (x : Translation) → pairs u p x → x ≡ t
     pub from : (q : ℕ) (x : Translation) → pairs u q x → pairs s q x ⊎ (entry_says e q ≡ Some x)
 
-  -- an entry that says nothing of the page changes nothing
+  -- an entry that says nothing of the page leaves the pairs as they were
   abbrev pub Loads : X → Entry → ℕ → X → Type 0
-  Loads s e p u = MatchOption (entry_says e p) (u ≡ s) (λ t. Takes s e p t u)
+  Loads s e p u = MatchOption (entry_says e p) (SamePairs s u) (λ t. Takes s e p t u)

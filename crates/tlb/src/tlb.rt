@@ -14,7 +14,7 @@ pub trait Tlb {
         ensures answer { Answers meaning.pairs self.old page.number result self.new }
         ensures within { Within meaning.pairs self.old self.new };
 
-    // Takes in an entry that says something of the page; any other entry changes nothing.
+    // Takes in an entry that says something of the page; any other entry adds no pair and takes none away.
     fn load(&mut self, entry: Entry, page: Page)
         ensures step { meaning.loaded self.old entry page.number self.new }
         ensures loads { Loads meaning.pairs self.old entry page.number self.new };
