@@ -1,5 +1,4 @@
-// What the two TLBs of slots and the two stacks of them mean, by their own names: each function only carries its fact. Of any two TLBs
-// the lemma `same_levels` says that two levels mean what their levels mean; a clause can't speak of every meaning.
+// What the TLBs mean, by their own names: each function only carries its fact. The last two put the levels' own names in their place.
 ghost use Rattle.tlb.specs.Meaning.{SameMeaning};
 ghost use Rattle.tlb.specs.OnePage.{one_page};
 ghost use Rattle.tlb.specs.Partial.{partial_subblock};
@@ -17,6 +16,11 @@ pub fn one_page_means()
 #[tactic(auto, using(crate::proofs::Loads::same_partial))]
 pub fn partial_subblock_means()
     ensures { SameMeaning ⟦<PartialSubblockTlb as Tlb>⟧.meaning partial_subblock }
+{}
+
+// For any two TLBs.
+pub fn two_level_means<A: Tlb, B: Tlb>()
+    ensures { SameMeaning ⟦<TwoLevelTlb<A, B> as Tlb>⟧.meaning (two_level A.Tlb.meaning B.Tlb.meaning) }
 {}
 
 #[tactic(auto, using(crate::proofs::Levels::same_levels, crate::proofs::Loads::same_one_page, crate::proofs::Loads::same_partial))]

@@ -19,6 +19,7 @@ pub use fill::Fill;
 pub use hand::Hand;
 pub use laws::{
     one_page_first_means, one_page_means, partial_subblock_first_means, partial_subblock_means,
+    two_level_means,
 };
 pub use page_slot::PageSlot;
 pub use partial_slot::PartialSlot;

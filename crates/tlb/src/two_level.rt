@@ -28,7 +28,9 @@ impl<A: Tlb, B: Tlb> Tlb for TwoLevelTlb<A, B> {
         if let Some(translation) = self.first.probe(page) {
             return Some(translation);
         }
-        let translation = self.second.probe(page)?;
+        let Some(translation) = self.second.probe(page) else {
+            return None;
+        };
         let word = Word::Full(FullWord::of_page(translation));
         self.first.load(Entry { page, word }, page);
         Some(translation)

@@ -10,11 +10,11 @@ use Rattle.tlb.proofs.two_level.TwoLevelTlbTlb.probe.Goals.{After-load}
 abbrev entry : (g : _) → After-load g → Entry
 entry g c = record { page = c.args.page; word = Full c.of_page.result }
 
-own : (g : _) (c : After-load g) → PageEntry (entry g c) c.args.page.number c.in_ok-translation.translation
+own : (g : _) (c : After-load g) → PageEntry (entry g c) c.args.page.number c.in-Some-probe.translation
 own g c = record { page = refl; full = refl; bits = c.of_page.ensures }
 
 pub returns-clause-step : goal.returns-clause-step
 returns-clause-step g c = inr (c.probe.new.self, record { first = search rules; second = search rules; filled = (entry g c, own g c, search rules) })
 
 pub returns-clause-within : goal.returns-clause-within
-returns-clause-within g c = filled_within g.A.Tlb.meaning g.B.Tlb.meaning c.args.self.now _ _ (entry g c) _ _ (own g c) c.in_default.ensures.within c.in_ok-translation.ensures.answer.0 c.load.ensures.loads c.in_ok-translation.ensures.within
+returns-clause-within g c = filled_within g.A.Tlb.meaning g.B.Tlb.meaning c.args.self.now _ _ (entry g c) _ _ (own g c) c.in_default.ensures.within c.in-Some-probe.ensures.answer.0 c.load.ensures.loads c.in-Some-probe.ensures.within
