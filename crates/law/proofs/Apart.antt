@@ -1,95 +1,90 @@
--- No frame is at two places after a run, and what a walk leads to is what was settled.
+-- No frame is at two places after a run, and a walk leads to what the page was given last.
 use Rattle.std.proofs.Common.{◌≡◌, ℕ, ◌^◌, ◌<◌, true, List, [], ◌∷◌, Some, None, Option, Ok, Err, refl, sym, ap, ◌∙◌, subst, ⊎_elim, arith}
 use Rattle.std.proofs.lemmas.Bool.{cases_eq}
-use Rattle.std.proofs.lemmas.Option.{none-some, same_Some}
+use Rattle.std.proofs.lemmas.Option.{none-some}
 use Rattle.std.specs.Option.{option_map}
 use Rattle.words.specs.declared.translation.Translation.{Translation}
 use Rattle.words.specs.Layout.{page_of}
 use Rattle.words.specs.Points.{at}
 use Rattle.words.specs.Reading.{translation, answer_of, answer_number}
 use Rattle.words.specs.Words.{form_of}
+use Rattle.words.specs.Blocks.{Mapping}
 use Rattle.words.proofs.WordLaws.{stands_reading}
 use Rattle.blocks.specs.declared.blocks.Walked.{Walked}
 use Rattle.blocks.specs.Blocks.{Walks}
 use Rattle.chains.proofs.Linking.{at_here, at_there}
 use Rattle.tlb.specs.Meaning.{TlbMeaning}
 use Rattle.frames.specs.Meaning.{FramesMeaning}
+use Rattle.fills.specs.declared.underway.Underway.{Underway}
+use Rattle.table.specs.Calls.{unmapped}
 use Rattle.law.specs.declared.calls.Event.{Event}
-use Rattle.law.specs.declared.calls.Event.TheVariants.{Begin, Settle, Abandon, Release, Protect, Touch, Walk, Census}
-use Rattle.law.specs.PageMap.{PageMap, nothing, next, after, frame_of, frame_at}
-use Rattle.law.specs.Law.{State, Accounted, Right}
-use Rattle.law.specs.Runs.{Sound, Run, Apart, settled_by, settled_in, ReadsSettled, FramesApart}
+use Rattle.law.specs.declared.calls.Event.TheVariants as event
+use Rattle.law.specs.PageMap.{PageMap, nothing, next, next_pages, after, frame_of, frame_at}
+use Rattle.law.specs.Law.{State, Right, Sound}
+use Rattle.law.specs.Runs.{Kept, SpaceRun, Apart, given_by, given_in, ReadsGiven, FramesApart}
+use Rattle.law.proofs.Points.{some_none, fill_frame}
+use Rattle.law.proofs.Steps.{fill_at}
 
--- each mapped page has the frame that was settled last
-abbrev Kept : PageMap → (ℕ → Option ℕ) → Type 0
-Kept m g = (p : ℕ) (x : Translation) → m.pages p ≡ Some x → g p ≡ Some x.frame
+-- each mapped page has what it was given last
+abbrev AsGiven : Mapping → Mapping → Type 0
+AsGiven m g = (p : ℕ) (x : Translation) → m p ≡ Some x → g p ≡ Some x
 
--- the page p is mapped to o, and settled to y
-kept_at : (m : PageMap) (g : ℕ → Option ℕ) (p : ℕ) (o : Option Translation) (y : Option ℕ) → Kept m g → ((x : Translation) → o ≡ Some x → y ≡ Some x.frame)
-    → (q : ℕ) (x : Translation) → at m.pages p o q ≡ Some x → at g p y q ≡ Some x.frame
-kept_at m g p o y k f q x e = ⊎_elim
-    (λ i. at_here g p y q i ∙ f x (sym (at_here m.pages p o q i) ∙ e))
-    (λ ne. at_there g p y q ne ∙ k q x (sym (at_there m.pages p o q ne) ∙ e))
+-- the page p is mapped to o, and given y
+given_at : (m g : Mapping) (p : ℕ) (o y : Option Translation) → AsGiven m g → ((x : Translation) → o ≡ Some x → y ≡ Some x) → AsGiven (at m p o) (at g p y)
+given_at m g p o y k f q x e = ⊎_elim
+    (λ i. at_here g p y q i ∙ f x (sym (at_here m p o q i) ∙ e))
+    (λ ne. at_there g p y q ne ∙ k q x (sym (at_there m p o q ne) ∙ e))
     (cases_eq q p)
 
--- the page p is mapped to o, and nothing is settled
-kept_same : (m : PageMap) (g : ℕ → Option ℕ) (p : ℕ) (o : Option Translation) → Kept m g → ((x : Translation) → o ≡ Some x → g p ≡ Some x.frame)
-    → (q : ℕ) (x : Translation) → at m.pages p o q ≡ Some x → g q ≡ Some x.frame
-kept_same m g p o k f q x e = ⊎_elim (λ i. ap g i ∙ f x (sym (at_here m.pages p o q i) ∙ e)) (λ ne. k q x (sym (at_there m.pages p o q ne) ∙ e)) (cases_eq q p)
+-- the page p is not mapped, and nothing is given
+given_none : (m g : Mapping) (p : ℕ) → AsGiven m g → AsGiven (at m p None) g
+given_none m g p k q x e = ⊎_elim (λ i. absurd (some_none e (at_here m p None q i))) (λ ne. k q x (sym (at_there m p None q ne) ∙ e)) (cases_eq q p)
 
-frame_is : (f x : ℕ) (y : Translation) → f < 2 ^ 28 → Some (translation f x) ≡ Some y → Some f ≡ Some y.frame
-frame_is f x y l e = ap Some (let z = ap (λ (u : Translation). u.frame) (same_Some (translation f x) y e) in omega arith)
+-- a page that is protected gets other attributes in both
+both_protected : (o y : Option Translation) (a : ℕ) (x : Translation) → ((u : Translation) → o ≡ Some u → y ≡ Some u) → option_map (λ u. translation u.frame a) o ≡ Some x → option_map (λ u. translation u.frame a) y ≡ Some x
+both_protected None y a x k e = absurd (none-some x e)
+both_protected (Some u) y a x k e = ap (option_map (λ v. translation v.frame a)) (k u refl) ∙ e
 
--- a page that is protected keeps its frame
-protected_frame : (o : Option Translation) (g : Option ℕ) (x : ℕ) (y : Translation) → ((u : Translation) → o ≡ Some u → g ≡ Some u.frame) → option_map (λ u. translation u.frame x) o ≡ Some y → g ≡ Some y.frame
-protected_frame None g x y k e = absurd (none-some y e)
-protected_frame (Some u) g x y k e = k u refl ∙ frame_is u.frame x y u.frames e
+given_next : (m g : Mapping) (e : Event) → AsGiven m g → AsGiven (next_pages m e) (given_by g e)
+given_next m g (event.Begin a r) h = h
+given_next m g (event.Settle p fill x (Ok y)) h = given_at m g p.number _ _ h (λ z e. e)
+given_next m g (event.Settle p fill x (Err e)) h = h
+given_next m g (event.Abandon p fill r) h = h
+given_next m g (event.Release a (Ok x)) h = given_none m g (page_of a) h
+given_next m g (event.Release a (Err e)) h = h
+given_next m g (event.Protect a x (Ok y)) h = given_at m g (page_of a) _ _ h (λ z e. both_protected (m (page_of a)) (g (page_of a)) x z (h (page_of a)) e)
+given_next m g (event.Protect a x (Err e)) h = h
+given_next m g (event.Touch a x r) h = h
+given_next m g (event.Walk a r) h = h
+given_next m g (event.Census c) h = h
 
 module _ {A B : Type 0} (t : TlbMeaning A) (k : FramesMeaning B) where
-  apart : (start b : B) (m : PageMap) → Accounted k.stock k.out start m b → Apart m
-  apart start b m a = record {
-    pages = λ p q x y e i s. a.once y.frame p q (ap (λ o. frame_of o (m.fills p)) e ∙ ap Some s) (ap (λ o. frame_of o (m.fills q)) i);
-    fills = λ p q f e i. a.once f p q (in_fill p f e) (in_fill q f i);
-    both = λ p q f x e i s. let same = a.once f p q (ap (λ o. frame_of o (m.fills p)) e ∙ ap Some s) (in_fill q f i) in none-some x (sym (a.waits f q i) ∙ ap m.pages (sym same) ∙ e);
+  apart : (m : PageMap) (s : State A B) → Sound t k m s → Apart m
+  apart m s d = record {
+    pages = λ p q x y e i same. d.once y.frame p q (behind p x e ∙ ap Some same) (behind q y i);
+    fills = λ p q x y e i same. d.once y.frame p q (fill_at t k m s s d p x e ∙ ap Some same) (fill_at t k m s s d q y i);
+    both = λ p q x y e i same.
+        let one = d.once y.frame p q (behind p x e ∙ ap Some same) (fill_at t k m s s d q y i) in
+        some_none e (ap m.pages one ∙ d.waits y q i);
   }
     where
-      in_fill : (p f : ℕ) → m.fills p ≡ Some f → frame_at m p ≡ Some f
-      in_fill p f e = ap (λ o. frame_of o (m.fills p)) (a.waits f p e) ∙ e
+      behind : (p : ℕ) (x : Translation) → m.pages p ≡ Some x → frame_at m p ≡ Some x.frame
+      behind p x e = ap (λ o. frame_of o (m.fills p)) e
 
-  module _ (small : (b : B) (f : ℕ) → k.out b f ≡ true → f < 2 ^ 28) where
-    kept_by : (start : B) (m : PageMap) (g : ℕ → Option ℕ) (e : Event) (s v : State A B) → Accounted k.stock k.out start m s.frames → Right t k m s e v → Kept m g → Kept (next m e) (settled_by g e)
-    kept_by start m g (Begin a (Ok f)) s v d r h = h
-    kept_by start m g (Begin a (Err e)) s v d r h = h
-    kept_by start m g (Settle p f x (Ok y)) s v d (_, here, _, _) h =
-        let out = d.is_out f p.number (ap (λ o. frame_of o (m.fills p.number)) (d.waits f p.number here) ∙ here) in
-        kept_at m g p.number (Some (translation f x)) (Some f) h (λ y e. frame_is f x y (small s.frames f out) e)
-    kept_by start m g (Settle p f x (Err e)) s v d r h = h
-    kept_by start m g (Abandon p f (Ok y)) s v d r h = h
-    kept_by start m g (Abandon p f (Err e)) s v d r h = h
-    kept_by start m g (Release a (Ok x)) s v d r h = kept_same m g (page_of a) None h (λ x e. absurd (none-some x e))
-    kept_by start m g (Release a (Err e)) s v d r h = h
-    kept_by start m g (Protect a x (Ok y)) s v d r h = kept_same m g (page_of a) _ h (λ y e. protected_frame (m.pages (page_of a)) (g (page_of a)) x y (h (page_of a)) e)
-    kept_by start m g (Protect a x (Err e)) s v d r h = h
-    kept_by start m g (Touch a x r) s v d q h = h
-    kept_by start m g (Walk a r) s v d q h = h
-    kept_by start m g (Census c) s v d r h = h
+  -- a run ends in a sound state, and each page has what it was given
+  run_keeps : (start : B) (m : PageMap) (g : Mapping) (s : State A B) (es : List Event) (u : State A B) → SpaceRun t k start m s es u → AsGiven m.pages g
+      → Kept t k start (after m es) u × AsGiven (after m es).pages (given_in g es)
+  run_keeps start m g s [] u (d, e) h = (subst (Kept t k start m) (sym e) d, h)
+  run_keeps start m g s (e ∷ es) u (d, (v, right, rest)) h = run_keeps start (next m e) (given_by g e) v es u rest (given_next m.pages g e h)
 
-    -- a run ends in a sound state, and what was settled is kept
-    run_keeps : (start : B) (m : PageMap) (g : ℕ → Option ℕ) (s : State A B) (es : List Event) (u : State A B) → Run t k start m s es u → Kept m g
-        → Sound t k start (after m es) u × Kept (after m es) (settled_in g es)
-    run_keeps start m g s [] u (d, e) h = (subst (Sound t k start m) (sym e) d, h)
-    run_keeps start m g s (e ∷ es) u (d, (v, right, rest)) h = run_keeps start (next m e) (settled_by g e) v es u rest (kept_by start m g e s v d.accounted right h)
+  reads : (m : Mapping) (es : List Event) (p : ℕ) (w : Walked) → AsGiven m (given_in unmapped es) → Walks m p w → ReadsGiven es p w
+  reads m es p w h d = let (x, e) = d.mapped in (
+    x,
+    h p x e,
+    ap answer_number (stands_reading m p (form_of w.word) _ d.word) ∙ ap (λ o. answer_number (answer_of o)) e,
+  )
 
-    reads : (m : PageMap) (es : List Event) (p : ℕ) (w : Walked) → Kept m (settled_in (λ q. None) es) → Walks m.pages p w → ReadsSettled es p w
-    reads m es p w h d = let (x, e) = d.mapped in (
-      x.frame,
-      x.attributes,
-      h p x e,
-      (let z = x.bits in omega arith),
-      ap answer_number (stands_reading m.pages p (form_of w.word) _ d.word) ∙ ap (λ o. answer_number (answer_of o)) e,
-    )
-
-    pub frames_apart : FramesApart t k
-    frames_apart tlb frames es u obeys =
-        let (d, h) = run_keeps frames nothing (λ p. None) _ es u obeys.run (λ p x e. absurd (none-some x e)) in
-        (apart frames u.frames (after nothing es) d.accounted, λ a w v (walks, _). reads (after nothing es) es (page_of a) w h walks)
+  pub frames_apart : FramesApart t k
+  frames_apart tlb frames es u obeys =
+      let (d, h) = run_keeps frames nothing unmapped _ es u obeys.run (λ p x e. absurd (none-some x e)) in
+      (apart (after nothing es) u d.sound, λ a w v right. reads (after nothing es).pages es (page_of a) w h right.walks)

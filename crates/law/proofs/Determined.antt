@@ -1,44 +1,49 @@
--- Two right answers to one call are equal, but for what the law leaves open.
-use Rattle.std.proofs.Common.{◌≡◌, ℕ, ◌+◌, ◌*◌, ◌%◌, Bool, true, false, cond, eqb, Some, Result, Ok, Err, MatchBool, List, [], ◌∷◌, sym, refl, ap, ap₂, ◌∙◌}
+-- Two right answers to one call are the same, and leave the same map, but for what the law leaves open.
+use Rattle.std.proofs.Common.{◌≡◌, ℕ, ◌+◌, ◌*◌, ◌%◌, Bool, true, false, cond, eqb, Some, Result, Ok, Err, MatchBool, List, [], ◌∷◌, sym, refl, ap, ap₂, ◌∙◌, subst}
 use Rattle.std.proofs.lemmas.Bool.{eqb-true}
 use Rattle.std.proofs.lemmas.Option.{none-some, same_Some}
-use Rattle.std.specs.Result.{result_ok, result_err}
-use Rattle.std.specs.Option.{option_map}
 use Rattle.words.specs.declared.address.Page.{Page}
 use Rattle.words.specs.declared.translation.Translation.{Translation}
 use Rattle.words.specs.declared.word.Word.{Word}
 use Rattle.words.specs.Layout.{page_of}
+use Rattle.words.specs.Refusals.{First, Accepted}
 use Rattle.words.specs.Blocks.{StandsFor}
 use Rattle.words.specs.Words.{form_of, bits_of}
 use Rattle.words.proofs.WordLaws.{one_word, same_word}
-use Rattle.blocks.specs.declared.blocks.Walked.{Walked as Found}
+use Rattle.blocks.specs.declared.blocks.Walked.{Walked}
 use Rattle.blocks.proofs.Counted.{exactly_one}
 use Rattle.tlb.specs.Meaning.{TlbMeaning}
 use Rattle.frames.specs.Meaning.{FramesMeaning}
-use Rattle.fills.specs.declared.fault.NoFill.{NoFill}
-use Rattle.fills.specs.Faults.{no_fill_number}
+use Rattle.fills.specs.declared.underway.Underway.{Underway}
 use Rattle.table.specs.declared.fault.NotMapped.{NotMapped}
 use Rattle.table.specs.declared.fault.ProtectFault.{ProtectFault}
 use Rattle.table.specs.declared.fault.ProtectFault.TheVariants as protect
 use Rattle.table.specs.Faults.{protect_number, not_mapped_number}
 use Rattle.table.specs.Calls.{mapped_refusals, protect_refusals}
-use Rattle.words.specs.Refusals.{First, Accepted}
 use Rattle.law.specs.declared.calls.Mark.{Mark}
-use Rattle.law.specs.declared.calls.Mark.TheVariants.{Hit, Walked}
+use Rattle.law.specs.declared.calls.Mark.TheVariants.{Hit, Missed}
 use Rattle.law.specs.declared.calls.Touched.{Touched}
-use Rattle.law.specs.declared.calls.Census.{Census as Counted}
-use Rattle.law.specs.declared.calls.Event.TheVariants.{Begin, Settle, Abandon, Release, Protect, Touch, Walk, Census}
+use Rattle.law.specs.declared.calls.Census.{Census}
+use Rattle.law.specs.declared.calls.Call.{Call}
+use Rattle.law.specs.declared.calls.Call.TheVariants as call
+use Rattle.law.specs.declared.calls.Event.{Event}
+use Rattle.law.specs.declared.calls.Event.TheVariants as event
 use Rattle.law.specs.declared.fault.BeginFault.{BeginFault}
 use Rattle.law.specs.declared.fault.BeginFault.TheVariants as begin
 use Rattle.law.specs.declared.fault.SettleFault.{SettleFault}
 use Rattle.law.specs.declared.fault.SettleFault.TheVariants as settle
+use Rattle.law.specs.declared.fault.AbandonFault.{AbandonFault}
+use Rattle.law.specs.declared.fault.AbandonFault.TheVariants as abandon
+use Rattle.law.specs.declared.fault.ReleaseFault.{ReleaseFault}
+use Rattle.law.specs.declared.fault.ReleaseFault.TheVariants as release
 use Rattle.law.specs.declared.fault.TouchFault.{TouchFault}
 use Rattle.law.specs.declared.fault.TouchFault.TheVariants as touch
-use Rattle.law.specs.Faults.{begin_number, settle_number, touch_number}
-use Rattle.law.specs.PageMap.{PageMap}
+use Rattle.law.specs.Faults.{begin_number, settle_number, abandon_number, release_number, touch_number}
+use Rattle.law.specs.Calls.{call_of}
+use Rattle.law.specs.PageMap.{PageMap, next}
 use Rattle.law.specs.Refusals.{begin_refusals, settle_refusals, abandon_refusals, touch_refusals}
-use Rattle.law.specs.Law.{State, Marked, Right}
-use Rattle.law.specs.Determined.{Determined, OneRightAnswer}
+use Rattle.law.specs.Law.{State, Marked, Right, Counted}
+use Rattle.law.specs.Determined.{fixed, taken_frame, SameButFree, OneRightAnswer}
 
 first_step : (b c : Bool) (X Y Z : Type 0) (n k r : ℕ) → (b ≡ true → n ≡ r) → (c ≡ true → k ≡ r) → (Y → Z → n ≡ k) → MatchBool b X ((X → ⊥) × Y) → MatchBool c X ((X → ⊥) × Z) → n ≡ k
 first_step true true X Y Z n k r e f g x y = e refl ∙ sym (f refl)
@@ -73,15 +78,6 @@ record Answer {T E : Type 0} (rs : List (Type 0 × ℕ)) (number : E → ℕ) (P
 abbrev Apart : {E : Type 0} → (E → ℕ) → Type 0
 Apart {E} number = (e d : E) → number e ≡ number d → e ≡ d
 
--- two answers look alike where any two accepted ones do
-module _ {T E V : Type 0} {rs : List (Type 0 × ℕ)} {number : E → ℕ} {P : T → Type 0} (apart : Apart number)
-    (look : Result T E → V) (same : (x y : T) → P x → P y → look (Ok x) ≡ look (Ok y)) where
-  alike : (r q : Result T E) → Answer rs number P r → Answer rs number P q → look r ≡ look q
-  alike (Ok x) (Ok y) a b = same x y a.is.1 b.is.1
-  alike (Ok x) (Err e) a b = absurd (not_both rs (number e) a.is.0 b.is)
-  alike (Err e) (Ok x) a b = absurd (not_both rs (number e) b.is.0 a.is)
-  alike (Err e) (Err d) a b = ap (λ x. look (Err x)) (apart e d (first_once rs (number e) (number d) a.is b.is))
-
 apart_by : {E : Type 0} (number : E → ℕ) (back : ℕ → E) → ((e : E) → back (number e) ≡ e) → Apart number
 apart_by number back undo e d i = sym (undo e) ∙ ap back i ∙ undo d
 
@@ -111,6 +107,12 @@ settle_undo settle.NoRow = refl
 settle_apart : Apart settle_number
 settle_apart = apart_by settle_number settle_fault settle_undo
 
+abandon_apart : Apart abandon_number
+abandon_apart abandon.NoFill abandon.NoFill i = refl
+
+release_apart : Apart release_number
+release_apart release.NotMapped release.NotMapped i = refl
+
 protect_fault : ℕ → ProtectFault
 protect_fault n = cond (eqb n 5) protect.BadAttributes (cond (eqb n 9) protect.NotMapped protect.NoRow)
 
@@ -135,76 +137,135 @@ touch_undo touch.Denied = refl
 touch_apart : Apart touch_number
 touch_apart = apart_by touch_number touch_fault touch_undo
 
+-- two answers to one call: both accepted, with a fact of the two; or both refused, by one fault
+module _ {T E : Type 0} (rs : List (Type 0 × ℕ)) (number : E → ℕ) (P : T → Type 0) (apart : Apart number) (Q : Result T E → Result T E → Type 0) where
+  both : ((x y : T) → P x → P y → Q (Ok x) (Ok y)) → ((e : E) → Q (Err e) (Err e)) → (r q : Result T E) → Answer rs number P r → Answer rs number P q → Q r q
+  both f g (Ok x) (Ok y) a b = f x y a.is.1 b.is.1
+  both f g (Ok x) (Err e) a b = absurd (not_both rs (number e) a.is.0 b.is)
+  both f g (Err e) (Ok x) a b = absurd (not_both rs (number e) b.is.0 a.is)
+  both f g (Err e) (Err d) a b = subst (λ c. Q (Err e) (Err c)) (apart e d (first_once rs (number e) (number d) a.is b.is)) (g e)
+
+-- equal answers are one event
+same_event : (m : PageMap) (e f : Event) → e ≡ f → SameButFree m e f
+same_event m e f i = record { answer = ap fixed i; pages = ap (λ x. (next m x).pages) i; fills = λ _. ap (λ x. (next m x).fills) i }
+
 module _ {A B : Type 0} (t : TlbMeaning A) (k : FramesMeaning B) (m : PageMap) (s : State A B) where
   one_mark : (g h : Mark) (p : ℕ) → Marked t g s.tlb p → Marked t h s.tlb p → g ≡ h
   one_mark Hit Hit p x y = refl
-  one_mark Hit Walked p (x, i) y = absurd (y x i)
-  one_mark Walked Hit p x (y, i) = absurd (x y i)
-  one_mark Walked Walked p x y = refl
+  one_mark Hit Missed p (x, i) y = absurd (y x i)
+  one_mark Missed Hit p x (y, i) = absurd (x y i)
+  one_mark Missed Missed p x y = refl
 
   -- what the law says of each answer, whatever the state after it
-  begun : (a : ℕ) (u : State A B) (r : Result ℕ BeginFault) → Right t k m s (Begin a r) u → Answer (begin_refusals k.stock k.out m s.frames (page_of a)) begin_number (λ f. Unit {0}) r
-  begun a u (Ok f) x = record { is = (x.0, tt) }
-  begun a u (Err e) x = record { is = x.0 }
+  begun : (a : ℕ) (u : State A B) (r : Result ℕ BeginFault) → Right t k m s (event.Begin a r) u → Answer (begin_refusals k.stock k.out m s.frames (page_of a)) begin_number (λ f. Unit {0}) r
+  begun a u (Ok f) x = record { is = (x.accepted, tt) }
+  begun a u (Err begin.Mapped) x = record { is = x.first }
+  begun a u (Err begin.Waiting) x = record { is = x.first }
+  begun a u (Err begin.TooMany) x = record { is = x.first }
+  begun a u (Err begin.NoFrame) x = record { is = x.first }
 
-  settled : (p : Page) (f x : ℕ) (u : State A B) (r : Result ℕ SettleFault) → Right t k m s (Settle p f x r) u → Answer (settle_refusals m p.number f x) settle_number (λ g. g ≡ f) r
-  settled p f x u (Ok g) (a, _, e, _) = record { is = (a, e) }
-  settled p f x u (Err e) y = record { is = y.0 }
+  settled : (p : Page) (f : Underway) (x : ℕ) (u : State A B) (r : Result ℕ SettleFault) → Right t k m s (event.Settle p f x r) u → Answer (settle_refusals m p.number f x) settle_number (λ g. g ≡ f.frame) r
+  settled p f x u (Ok g) y = record { is = (y.accepted, y.answered) }
+  settled p f x u (Err e) y = record { is = y.first }
 
-  abandoned : (p : Page) (f : ℕ) (u : State A B) (r : Result ℕ NoFill) → Right t k m s (Abandon p f r) u → Answer (abandon_refusals m p.number f) (λ _. no_fill_number) (λ g. g ≡ f) r
-  abandoned p f u (Ok g) (w, e, _, _) = record { is = ((λ n. n w, tt), e) }
-  abandoned p f u (Err e) x = record { is = x.0 }
+  abandoned : (p : Page) (f : Underway) (u : State A B) (r : Result ℕ AbandonFault) → Right t k m s (event.Abandon p f r) u → Answer (abandon_refusals m p.number f) abandon_number (λ g. g ≡ f.frame) r
+  abandoned p f u (Ok g) x = record { is = ((λ n. n x.waited, tt), x.answered) }
+  abandoned p f u (Err e) x = record { is = x.first }
 
-  released : (a : ℕ) (u : State A B) (r : Result Translation NotMapped) → Right t k m s (Release a r) u → Answer (mapped_refusals m.pages (page_of a)) (λ _. not_mapped_number) (λ x. m.pages (page_of a) ≡ Some x) r
-  released a u (Ok x) (e, _, _) = record { is = ((λ n. none-some x (sym n ∙ e), tt), e) }
-  released a u (Err e) x = record { is = x.0 }
+  released : (a : ℕ) (u : State A B) (r : Result Translation ReleaseFault) → Right t k m s (event.Release a r) u → Answer (mapped_refusals m.pages (page_of a)) release_number (λ x. m.pages (page_of a) ≡ Some x) r
+  released a u (Ok x) q = record { is = ((λ n. none-some x (sym n ∙ q.here), tt), q.here) }
+  released a u (Err e) q = record { is = q.first }
 
-  protected : (a x : ℕ) (u : State A B) (r : Result ℕ ProtectFault) → Right t k m s (Protect a x r) u
+  protected : (a x : ℕ) (u : State A B) (r : Result ℕ ProtectFault) → Right t k m s (event.Protect a x r) u
       → Answer (protect_refusals m.pages (page_of a) x) protect_number (λ y. (z : Translation) × (m.pages (page_of a) ≡ Some z) × (y ≡ z.attributes)) r
-  protected a x u (Ok y) q = record { is = (q.0, q.1) }
-  protected a x u (Err e) q = record { is = q.0 }
+  protected a x u (Ok y) q = record { is = (q.accepted, (q.former, q.here, q.answered)) }
+  protected a x u (Err e) q = record { is = q.first }
 
-  touched : (a x : ℕ) (u : State A B) (r : Result Touched TouchFault) → Right t k m s (Touch a x r) u
+  touched : (a x : ℕ) (u : State A B) (r : Result Touched TouchFault) → Right t k m s (event.Touch a x r) u
       → Answer (touch_refusals m.pages (page_of a) x) touch_number
       (λ d. (z : Translation) × (m.pages (page_of a) ≡ Some z) × (d.physical ≡ z.frame * 4096 + a % 4096) × Marked t d.mark s.tlb (page_of a)) r
-  touched a x u (Ok d) q = let (z, e, l) = q.1 in record { is = (q.0, (z, l.here, e, l.mark)) }
-  touched a x u (Err touch.BadAccess) q = record { is = q.0 }
-  touched a x u (Err touch.NotMapped) q = record { is = q.0 }
-  touched a x u (Err touch.Denied) q = record { is = q.0 }
+  touched a x u (Ok d) q = record { is = (q.accepted, (q.found, q.looked_up.here, q.answered, q.looked_up.marked)) }
+  touched a x u (Err touch.BadAccess) q = record { is = q.first }
+  touched a x u (Err touch.NotMapped) q = record { is = q.first }
+  touched a x u (Err touch.Denied) q = record { is = q.first }
 
-  walked : (a : ℕ) (u : State A B) (r : Result Found NotMapped) → Right t k m s (Walk a r) u
+  walked : (a : ℕ) (u : State A B) (r : Result Walked NotMapped) → Right t k m s (event.Walk a r) u
       → Answer (mapped_refusals m.pages (page_of a)) (λ _. not_mapped_number) (λ w. StandsFor m.pages (page_of a) (form_of w.word) (bits_of w.word)) r
-  walked a u (Ok w) x = let (z, e) = x.0.mapped in record { is = ((λ n. none-some z (sym n ∙ e), tt), x.0.word) }
-  walked a u (Err e) x = record { is = x.0 }
+  walked a u (Ok w) x = let (z, e) = x.walks.mapped in record { is = ((λ n. none-some z (sym n ∙ e), tt), x.walks.word) }
+  walked a u (Err e) x = record { is = x.first }
 
   same_words : (p : ℕ) (w v : Word) → StandsFor m.pages p (form_of w) (bits_of w) → StandsFor m.pages p (form_of v) (bits_of v) → w ≡ v
   same_words p w v x y = let (i, j) = one_word m.pages p (form_of w) (form_of v) (bits_of w) (bits_of v) x y in same_word w v i j
 
-  counted : (u v : State A B) (c d : Counted) → Right t k m s (Census c) u → Right t k m s (Census d) v → c ≡ d
-  counted u v c d (x, f, _) (y, g, _) =
-      let nodes = exactly_one c.nodes d.nodes _ _ x.nodes_used y.nodes_used in
-      let rows = exactly_one c.rows d.rows _ _ x.rows_used y.rows_used in
-      let pages = exactly_one c.pages d.pages _ _ x.pages_mapped y.pages_mapped in
-      let fills = exactly_one c.fills d.fills _ _ f g in
+  counted : (u v : State A B) (c d : Census) → Counted t k m s c u → Counted t k m s d v → c ≡ d
+  counted u v c d x y =
+      let nodes = exactly_one c.nodes d.nodes _ _ x.table.nodes_used y.table.nodes_used in
+      let rows = exactly_one c.rows d.rows _ _ x.table.rows_used y.table.rows_used in
+      let pages = exactly_one c.pages d.pages _ _ x.table.pages_mapped y.table.pages_mapped in
+      let fills = exactly_one c.fills d.fills _ _ x.waiting y.waiting in
       ap₂ (λ a b. record { nodes = a; rows = b; pages = c.pages; fills = c.fills }) nodes rows ∙ ap₂ (λ a b. record { nodes = d.nodes; rows = d.rows; pages = a; fills = b }) pages fills
 
-  determined : (u v : State A B) → Determined t k m s u v
-  determined u v = record {
-    begins = λ a r q x y. alike begin_apart result_err (λ f g i j. refl) r q (begun a u r x) (begun a v q y);
-    settles = λ p f x r q y z. alike settle_apart (λ r. r) (λ g h i j. ap Ok (i ∙ sym j)) r q (settled p f x u r y) (settled p f x v q z);
-    abandons = λ p f r q x y. alike (λ e d i. refl) (λ r. r) (λ g h i j. ap Ok (i ∙ sym j)) r q (abandoned p f u r x) (abandoned p f v q y);
-    releases = λ a r q x y. alike (λ e d i. refl) (λ r. r) (λ g h i j. ap Ok (same_Some g h (sym i ∙ j))) r q (released a u r x) (released a v q y);
-    protects = λ a x r q y z.
-        alike protect_apart (λ r. r) (λ g h (c, i, e) (d, j, f). ap Ok (e ∙ ap (λ (z : Translation). z.attributes) (same_Some c d (sym i ∙ j)) ∙ sym f)) r q (protected a x u r y) (protected a x v q z);
-    touches = λ a x r q y z.
-        alike touch_apart (λ r. r)
+  -- the answers of a call
+  abbrev AnswerTo : Call → Type 0
+  AnswerTo (call.Begin a) = Result ℕ BeginFault
+  AnswerTo (call.Settle p f x) = Result ℕ SettleFault
+  AnswerTo (call.Abandon p f) = Result ℕ AbandonFault
+  AnswerTo (call.Release a) = Result Translation ReleaseFault
+  AnswerTo (call.Protect a x) = Result ℕ ProtectFault
+  AnswerTo (call.Touch a x) = Result Touched TouchFault
+  AnswerTo (call.Walk a) = Result Walked NotMapped
+  AnswerTo call.Census = Census
+
+  abbrev with_answer : (c : Call) → AnswerTo c → Event
+  with_answer (call.Begin a) r = event.Begin a r
+  with_answer (call.Settle p f x) r = event.Settle p f x r
+  with_answer (call.Abandon p f) r = event.Abandon p f r
+  with_answer (call.Release a) r = event.Release a r
+  with_answer (call.Protect a x) r = event.Protect a x r
+  with_answer (call.Touch a x) r = event.Touch a x r
+  with_answer (call.Walk a) r = event.Walk a r
+  with_answer call.Census r = event.Census r
+
+  parted : (e : Event) → (r : AnswerTo (call_of e)) × (e ≡ with_answer (call_of e) r)
+  parted (event.Begin a r) = (r, refl)
+  parted (event.Settle p f x r) = (r, refl)
+  parted (event.Abandon p f r) = (r, refl)
+  parted (event.Release a r) = (r, refl)
+  parted (event.Protect a x r) = (r, refl)
+  parted (event.Touch a x r) = (r, refl)
+  parted (event.Walk a r) = (r, refl)
+  parted (event.Census r) = (r, refl)
+
+  module _ (u v : State A B) where
+    of_call : (c : Call) (r q : AnswerTo c) → Right t k m s (with_answer c r) u → Right t k m s (with_answer c q) v → SameButFree m (with_answer c r) (with_answer c q)
+    of_call (call.Begin a) r q x y = both _ begin_number _ begin_apart (λ r q. SameButFree m (event.Begin a r) (event.Begin a q))
+        (λ f g i j. record { answer = refl; pages = refl; fills = λ e. ap (λ z. (next m (event.Begin a (Ok z))).fills) (same_Some f g e) }) (λ e. same_event m _ _ refl) r q (begun a u r x) (begun a v q y)
+    of_call (call.Settle p f x) r q y z = both _ settle_number _ settle_apart (λ r q. SameButFree m (event.Settle p f x r) (event.Settle p f x q))
+        (λ g h i j. same_event m _ _ (ap (λ z. event.Settle p f x (Ok z)) (i ∙ sym j))) (λ e. same_event m _ _ refl) r q (settled p f x u r y) (settled p f x v q z)
+    of_call (call.Abandon p f) r q y z = both _ abandon_number _ abandon_apart (λ r q. SameButFree m (event.Abandon p f r) (event.Abandon p f q))
+        (λ g h i j. same_event m _ _ (ap (λ z. event.Abandon p f (Ok z)) (i ∙ sym j))) (λ e. same_event m _ _ refl) r q (abandoned p f u r y) (abandoned p f v q z)
+    of_call (call.Release a) r q y z = both _ release_number _ release_apart (λ r q. SameButFree m (event.Release a r) (event.Release a q))
+        (λ g h i j. same_event m _ _ (ap (λ z. event.Release a (Ok z)) (same_Some g h (sym i ∙ j)))) (λ e. same_event m _ _ refl) r q (released a u r y) (released a v q z)
+    of_call (call.Protect a x) r q y z = both _ protect_number _ protect_apart (λ r q. SameButFree m (event.Protect a x r) (event.Protect a x q))
+        (λ g h (c, i, e) (d, j, f). same_event m _ _ (ap (λ z. event.Protect a x (Ok z)) (e ∙ ap (λ (z : Translation). z.attributes) (same_Some c d (sym i ∙ j)) ∙ sym f))) (λ e. same_event m _ _ refl) r q (protected a x u r y) (protected a x v q z)
+    of_call (call.Touch a x) r q y z = both _ touch_number _ touch_apart (λ r q. SameButFree m (event.Touch a x r) (event.Touch a x q))
         (λ g h (c, i, e, w) (d, j, f, n).
-        ap Ok (ap₂ (λ b l. record { physical = b; mark = l }) (e ∙ ap (λ (z : Translation). z.frame * 4096 + a % 4096) (same_Some c d (sym i ∙ j)) ∙ sym f) (one_mark g.mark h.mark (page_of a) w n)))
-        r q (touched a x u r y) (touched a x v q z);
-    walks = λ a r q x y.
-        alike (λ e d i. refl) (λ r. option_map (λ (w : Found). w.word) (result_ok r)) (λ g h i j. ap Some (same_words (page_of a) g.word h.word i j)) r q (walked a u r x) (walked a v q y);
-    counts = counted u v;
-  }
+        same_event m _ _ (ap₂ (λ b l. event.Touch a x (Ok (record { physical = b; mark = l })))
+        (e ∙ ap (λ (z : Translation). z.frame * 4096 + a % 4096) (same_Some c d (sym i ∙ j)) ∙ sym f) (one_mark g.mark h.mark (page_of a) w n))) (λ e. same_event m _ _ refl) r q (touched a x u r y) (touched a x v q z)
+    of_call (call.Walk a) r q y z = both _ (λ _. not_mapped_number) _ (λ e d i. refl) (λ r q. SameButFree m (event.Walk a r) (event.Walk a q))
+        (λ g h i j. record { answer = ap (λ w. event.Walk a (Ok (record { word = w; looked = 0 }))) (same_words (page_of a) g.word h.word i j); pages = refl; fills = λ e. refl }) (λ e. same_event m _ _ refl)
+        r q (walked a u r y) (walked a v q z)
+    of_call call.Census r q y z = same_event m _ _ (ap event.Census (counted u v r q y z))
+
+    of_calls : (c d : Call) → c ≡ d → (r : AnswerTo c) (q : AnswerTo d) → Right t k m s (with_answer c r) u → Right t k m s (with_answer d q) v → SameButFree m (with_answer c r) (with_answer d q)
+    of_calls c d same r = subst (λ d. (q : AnswerTo d) → Right t k m s (with_answer c r) u → Right t k m s (with_answer d q) v → SameButFree m (with_answer c r) (with_answer d q)) same (λ q. of_call c r q)
+
+    of_events : (e f : Event) → call_of e ≡ call_of f → Right t k m s e u → Right t k m s f v → SameButFree m e f
+    of_events e f same x y =
+        let (r, i) = parted e in
+        let (q, j) = parted f in
+        subst (λ g. SameButFree m g f) (sym i) (subst (λ g. SameButFree m (with_answer (call_of e) r) g) (sym j)
+        (of_calls (call_of e) (call_of f) same r q (subst (λ g. Right t k m s g u) i x) (subst (λ g. Right t k m s g v) j y)))
 
 pub one_right_answer : {A B : Type 0} (t : TlbMeaning A) (k : FramesMeaning B) → OneRightAnswer t k
-one_right_answer t k m s u v = determined t k m s u v
+one_right_answer t k m s u v = of_events t k m s u v

@@ -16,6 +16,7 @@ use Rattle.chains.specs.Counting.{Exactly}
 use Rattle.chains.proofs.Counts.{many_same, many_at, many_none}
 use Rattle.blocks.proofs.Counted.{exactly_one}
 use Rattle.blocks.specs.Blocks.{Rowed, UsedBlocks, RowedBlocks}
+use Rattle.fills.specs.Fills.{underway}
 use Rattle.law.specs.Refusals.{Denies}
 use Rattle.law.specs.Examples.{WorkedExamples}
 
@@ -86,8 +87,8 @@ module _ (m : Mapping) (inside : InBlock m) where
     rowed_one n = exactly_just 4 (2 ^ 48) (Rowed m) (omega arith) (used, n) (λ b x. used_is b x.0)
 
 -- the fill of the page 0x41 has come and gone
-no_fill_left : (f : ℕ) → at (at (λ p. None) 0x41 (Some f)) 0x41 None ≡ λ p. None
-no_fill_left f = fun_ext (λ p. elim (eqb p 0x41) as (λ v. cond v None (cond v (Some f) None) ≡ None) [ true ↦ refl | false ↦ refl ])
+no_fill_left : (f : ℕ) → at (at (λ p. None) 0x41 (Some (underway f))) 0x41 None ≡ λ p. None
+no_fill_left f = fun_ext (λ p. elim (eqb p 0x41) as (λ v. cond v None (cond v (Some (underway f)) None) ≡ None) [ true ↦ refl | false ↦ refl ])
 
 read_allowed : Denies protected 0x41 1 → ⊥
 read_allowed (Read, t, n, e, d) =
@@ -103,7 +104,7 @@ pub worked_examples : WorkedExamples
 worked_examples = record {
   formats = examples;
   settled = λ p e.
-      ap (λ n. record { pages = at unmapped n (Some (translation 0x1001 3)); fills = at (at (λ q. None) 0x41 (Some 0x1001)) n None }) e
+      ap (λ n. record { pages = at unmapped n (Some (translation 0x1001 3)); fills = at (at (λ q. None) 0x41 (Some (underway 0x1001))) n None }) e
       ∙ ap (λ f. record { pages = single 0x1001; fills = f }) (no_fill_left 0x1001);
   protect = refl;
   protect_back = refl;

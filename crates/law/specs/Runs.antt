@@ -41,6 +41,12 @@ module _ {A B : Type 0} (t : TlbMeaning A) (k : FramesMeaning B) where
     pub empty : (page : ℕ) → Lacks t.pairs first page
     pub run : SpaceRun frames nothing (record { tlb = first; frames = frames }) es u
 
+-- what holds of a space holds after each right event
+abbrev pub Stays : {A B : Type 0} → TlbMeaning A → FramesMeaning B → Type 0
+Stays {A} {B} t k =
+    (m : PageMap) (s u : State A B) (e : Event) → Sound t k m s → Right t k m s e u
+    → Sound t k (next m e) u × ((start : B) → Kept t k start m s → Kept t k start (next m e) u)
+
 -- the first n places have the events of the first n calls, and the other places are as they were
 pub record Answered (calls : List Call) (before now : List Event) (n : ℕ) : Type 0 where
   pub own : map call_of (take n now) ≡ take n calls

@@ -7,4 +7,4 @@ mod laws;
 
 pub use calls::{Call, Census, Event, Mark, Touched};
 pub use fault::{AbandonFault, BeginFault, ReleaseFault, SettleFault, TouchFault};
-pub use laws::{frames_are_apart, one_right_answer, worked_examples};
+pub use laws::{frames_are_apart, one_right_answer, what_holds_stays, worked_examples};
