@@ -33,7 +33,7 @@ is_none (Some x) h = absurd (h (x, refl))
 
 module _ {A B : Type 0} (t : TlbMeaning A) (k : FramesMeaning B) where
   -- no pair came in
-  within_coherent : (m : Mapping) (a b : A) → Within t.pairs a b → Coherent t m a → Coherent t m b
+  pub within_coherent : (m : Mapping) (a b : A) → Within t.pairs a b → Coherent t m a → Coherent t m b
   within_coherent m a b w c q x h = c q x (w q x h)
 
   -- the TLB is as it was, and what it has is mapped as before
@@ -47,7 +47,7 @@ module _ {A B : Type 0} (t : TlbMeaning A) (k : FramesMeaning B) where
       (λ ne. at_there m p o q ne ∙ c q x (d.within q x h))
       (cases_eq q p)
 
-  looked_coherent : (m : Mapping) (mark : Mark) (a : A) (p : ℕ) (x : Translation) (b : A) → LookedUp t m mark a p x b → Coherent t m a → Coherent t m b
+  pub looked_coherent : (m : Mapping) (mark : Mark) (a : A) (p : ℕ) (x : Translation) (b : A) → LookedUp t m mark a p x b → Coherent t m a → Coherent t m b
   looked_coherent m Hit a p x b d c q y h = let (_, within) = d.asked in c q y (within q y h)
   looked_coherent m Missed a p x b d c q y h =
       let (v, probed, filled) = d.asked in
@@ -59,6 +59,18 @@ module _ {A B : Type 0} (t : TlbMeaning A) (k : FramesMeaning B) where
 
   pub placed : (m : PageMap) (s : State A B) → Sound t k m s → Placed (k.out s.frames) m
   placed m s d = record { is_out = d.is_out; once = d.once }
+
+  -- nothing is mapped, no page waits, and the TLB has no pair
+  pub empty_sound : (m : PageMap) (s : State A B) → ((p : ℕ) → m.pages p ≡ None) → ((p : ℕ) → m.fills p ≡ None) → ((p : ℕ) (x : Translation) → t.pairs s.tlb p x → ⊥) → Sound t k m s
+  empty_sound m s none unfilled lacks = record {
+    coherent = λ p x h. absurd (lacks p x h);
+    is_out = λ f p e. absurd (some_none e (nowhere p));
+    once = λ f p q e i. absurd (some_none e (nowhere p));
+    waits = λ f p e. absurd (some_none e (unfilled p));
+  }
+    where
+      nowhere : (p : ℕ) → frame_at m p ≡ None
+      nowhere p = ap (λ o. frame_of o (m.fills p)) (none p) ∙ ap fill_frame (unfilled p)
 
   module _ (m : PageMap) (s u : State A B) (d : Sound t k m s) where
     -- the page that waits is not mapped, and its frame is out
@@ -79,7 +91,7 @@ module _ {A B : Type 0} (t : TlbMeaning A) (k : FramesMeaning B) where
     same_sound e = subst (λ v. Sound t k m v) (sym e) d
 
     -- only the TLB has changed
-    tlb_sound : Coherent t m.pages u.tlb → u.frames ≡ s.frames → Sound t k m u
+    pub tlb_sound : Coherent t m.pages u.tlb → u.frames ≡ s.frames → Sound t k m u
     tlb_sound c e = with_parts m c (place_moved m m 0 0 (k.out s.frames) (k.out u.frames) (placed m s d) (λ q. refl) (ap k.out e)) d.waits
 
     begun_sound : (a f : ℕ) → Begun t k m s (page_of a) f u → Sound t k (next m (event.Begin a (Ok f))) u

@@ -1,65 +1,82 @@
--- One call: what the changes of its parts make of the map that a space stands for.
-use Rattle.std.proofs.Common.{◌≡◌, ◌≢◌, ℕ, ◌<◌, Bool, true, false, not, eqb, is_some, List, [], ◌∷◌, Some, None, Option, Ok, Err, Result, refl, sym, ap, ap₂, ◌∙◌, subst, inl, inr, ⊎_elim, ◌⊎◌, arith}
-use Rattle.std.specs.Result.{IsErrAnd}
-use Rattle.std.proofs.lemmas.Bool.{cases_eq, eqb-true, not-false}
-use Rattle.std.proofs.lemmas.Bool.{both_ways}
-use Rattle.words.specs.declared.translation.Translation.{Translation}
-use Rattle.words.specs.Layout.{page_of, block_of}
-use Rattle.words.specs.Blocks.{Mapping}
-use Rattle.std.specs.Option.{option_map, option_eq}
+-- One call: what the changes of its parts make of the map and of what holds.
+use Rattle.std.proofs.Common.{◌≡◌, ◌≢◌, ℕ, ◌+◌, ◌*◌, ◌%◌, ◌^◌, ◌<◌, Bool, true, false, not, eqb, is_some, List, [], ◌∷◌, Some, None, Option, Ok, Err, Result, MatchResult, refl, sym, ap, ap₂, ◌∙◌, subst, arith}
+use Rattle.std.specs.Result.{IsErr, IsErrAnd}
+use Rattle.std.specs.Option.{option_eq, MatchOption}
+use Rattle.std.proofs.lemmas.Bool.{both_ways, eqb-true, not-false}
+use Rattle.words.specs.declared.access.Access.{Access}
+use Rattle.words.specs.declared.access.Access.TheVariants.{Read, Write, Execute}
 use Rattle.words.specs.declared.address.Page.{Page}
+use Rattle.words.specs.declared.translation.Translation.{Translation}
+use Rattle.words.specs.Access.{access_number, allowed}
+use Rattle.words.specs.Layout.{page_of, block_of}
 use Rattle.words.specs.Points.{at}
 use Rattle.words.specs.Reading.{translation}
+use Rattle.words.specs.Refusals.{First, Accepted}
+use Rattle.words.specs.Words.{form_of, bits_of}
+use Rattle.words.specs.Blocks.{Mapping, IsMapped, StandsFor}
 use Rattle.words.proofs.Translations.{translation_is}
-use Rattle.chains.proofs.Linking.{at_there}
-use Rattle.tlb.specs.Meaning.{TlbMeaning}
-use Rattle.frames.specs.declared.fault.FreeFault.{FreeFault}
+use Rattle.tlb.specs.declared.tlb.Tlb as tlb
+use Rattle.tlb.specs.declared.entry.Entry.{Entry}
+use Rattle.tlb.specs.Entries.{entry_says}
+use Rattle.tlb.specs.Meaning.{TlbMeaning, Within, SamePairs, Answers, Takes as TlbTakes, Loads}
+use Rattle.frames.specs.declared.allocator.FrameAllocator as allocator
 use Rattle.frames.specs.declared.fault.AllocateFault.{AllocateFault}
 use Rattle.frames.specs.declared.fault.AllocateFault.TheVariants.{AllOut}
-use Rattle.frames.specs.Meaning.{FramesMeaning, NoneLeft, Takes, Gives}
+use Rattle.frames.specs.declared.fault.FreeFault.{FreeFault}
+use Rattle.frames.specs.declared.fault.FreeFault.TheVariants.{NotOut}
+use Rattle.frames.specs.Meaning.{FramesMeaning, Takes, Gives}
+use Rattle.blocks.specs.declared.blocks.Walked.{Walked}
+use Rattle.blocks.specs.Blocks.{Walks, NodesOut, RowsOut}
 use Rattle.fills.specs.declared.fault.AddFault.{AddFault}
 use Rattle.fills.specs.declared.fault.AddFault.TheVariants as add
-use Rattle.fills.specs.Faults.{add_number}
-use Rattle.fills.specs.Fills.{waits, Refuses, Admits, Adds}
-use Rattle.blocks.specs.Blocks.{NodesOut, RowsOut}
+use Rattle.fills.specs.declared.underway.Underway.{Underway}
+use Rattle.fills.specs.Faults.{add_number, no_fill_number}
+use Rattle.fills.specs.Fills.{Waits, underway, add_refusals, remove_refusals}
 use Rattle.table.specs.declared.fault.MapFault.{MapFault}
 use Rattle.table.specs.declared.fault.MapFault.TheVariants as map
+use Rattle.table.specs.declared.fault.NotMapped.{NotMapped}
 use Rattle.table.specs.declared.fault.ProtectFault.{ProtectFault}
-use Rattle.table.specs.Faults.{map_number, protect_number}
-use Rattle.table.specs.Calls.{mapped, released, protected, map_refusals, protect_refusals}
-use Rattle.words.specs.Refusals.{First, Accepted}
-use Rattle.table.specs.Table.{mapping}
-use Rattle.table.proofs.Tables.{is_mapped}
+use Rattle.table.specs.Faults.{map_number, protect_number, not_mapped_number}
+use Rattle.table.specs.Calls.{mapped, released, protected, map_refusals, mapped_refusals, protect_refusals}
 use Rattle.law.specs.declared.calls.Event.{Event}
-use Rattle.law.specs.declared.calls.Event.TheVariants.{Begin, Settle, Abandon, Release, Protect}
-use Rattle.law.specs.declared.fault.SettleFault.{SettleFault}
+use Rattle.law.specs.declared.calls.Event.TheVariants as event
+use Rattle.law.specs.declared.calls.Mark.{Mark}
+use Rattle.law.specs.declared.calls.Mark.TheVariants.{Hit, Missed}
+use Rattle.law.specs.declared.calls.Touched.{Touched}
 use Rattle.law.specs.declared.fault.BeginFault.{BeginFault}
 use Rattle.law.specs.declared.fault.BeginFault.TheVariants as begin
-use Rattle.law.specs.Faults.{begin_number, settle_number, BeginFromAdd, SettleFromMap}
-use Rattle.law.specs.Refusals.{begin_refusals, settle_refusals}
-use Rattle.law.specs.PageMap.{PageMap, next, frame_of, frame_at}
-use Rattle.law.specs.Law.{Coherent, Purged, Accounted, FrameRefused, Right}
-use Rattle.law.specs.Runs.{Sound}
-use Rattle.law.proofs.Frames.{taken, given, moved}
+use Rattle.law.specs.declared.fault.SettleFault.{SettleFault}
+use Rattle.law.specs.declared.fault.TouchFault.{TouchFault}
+use Rattle.law.specs.declared.fault.TouchFault.TheVariants as touch
+use Rattle.law.specs.Faults.{settle_number, SettleFromMap}
+use Rattle.law.specs.PageMap.{PageMap, next}
+use Rattle.law.specs.Refusals.{BadAccess, settle_refusals}
+use Rattle.law.specs.Law.{State, Coherent, Allocated, NotAllocated, Freed, LookedUp, ProbedInVain, Purged, Right, Sound, Accounted}
+use Rattle.law.proofs.Entries.{own_says}
+use Rattle.law.proofs.Points.{some_none, same_some}
+use Rattle.law.proofs.Steps.{is_none, fill_at, stays}
 use Rattle.space.specs.declared.fill.Fill.{Fill}
 use Rattle.space.specs.declared.space.Space.{Space}
-use Rattle.space.specs.Space.{seen, page_map, begun as begun_event, Stands, Lawful}
-use Rattle.space.proofs.Points.{some_none, fill_frames, unfill_frames, settle_frames, release_frames, protect_frames, unfilled, fill_waits, unfill_waits, change_waits}
+use Rattle.space.specs.Space.{seen, page_map, begun as begun_event, Lawful}
 
--- an optional frame that was compared
-pub found : (o : Option ℕ) (f : ℕ) (b : Bool) → b ≡ not (option_eq eqb o (Some f)) → b ≡ false → o ≡ Some f
-found (Some h) f b e n = ap Some (eqb-true h f (not-false _ (sym e ∙ n)))
+-- an error of which something is known
+pub err_only : {T E : Type 0} (P : Result T E → Type 0) (G : E → Type 0) (r : Result T E) → IsErrAnd r G → ((e : E) → G e → P (Err e)) → P r
+err_only P G (Ok x) a f = absurd a
+err_only P G (Err e) a f = f e a
+
+pub on_err : {T E : Type 0} (P : T → Type 0) (Q : E → Type 0) (r : Result T E) → IsErr r → ((e : E) → Q e) → MatchResult r P Q
+on_err P Q (Ok x) a f = absurd a
+on_err P Q (Err e) a f = f e
+
+-- an optional fill that was compared
+pub found : (o : Option Underway) (f : Underway) (b : Bool) → b ≡ not (option_eq (λ x y. eqb x.frame y.frame) o (Some f)) → b ≡ false → o ≡ Some f
+found (Some h) f b e n = ap (λ x. Some (underway x)) (eqb-true h.frame f.frame (not-false _ (sym e ∙ n)))
 found None f b e n = absurd (both_ways _ n e)
 
--- a page for which a fill may be begun is not refused by the list of fills
-pub not_refused : (e : AddFault) (m : ℕ → Option ℕ) (p : ℕ) → Admits m p → Refuses e m p → ⊥
-not_refused add.Waiting m p (none, few) (f, i) = some_none i none
-not_refused add.TooMany m p (none, few) (_, full) = few full
-
--- the list of fills refuses neither with 1 nor with 4
-add_numbers : (e : AddFault) {n : ℕ} → n ≡ add_number e → (n ≡ 1) ⊎ (n ≡ 4) → ⊥
-add_numbers add.Waiting i o = ⊎_elim (λ j. omega arith) (λ j. omega arith) o
-add_numbers add.TooMany i o = ⊎_elim (λ j. omega arith) (λ j. omega arith) o
+-- what may be taken in is not refused
+pub not_refused : (waits : Waits) (p : ℕ) (e : AddFault) → Accepted (add_refusals waits p) → First (add_refusals waits p) (add_number e) → ⊥
+not_refused waits p add.Waiting (new, _) f = new f
+not_refused waits p add.TooMany (new, (few, _)) (_, full) = few full
 
 -- what the table refuses for want of room
 abbrev room_refusals : Mapping → ℕ → Translation → List (Type 0 × ℕ)
@@ -72,214 +89,198 @@ lacks map.Mapped g h p z none x y (w, i) s = absurd (some_none i none)
 lacks map.NoNode g h p z none x y (_, out) s = rw s (x, (y, out))
 lacks map.NoRow g h p z none x y (_, (nodes, rows)) s = rw s (x, (y, (nodes, rows)))
 
--- what the parts of a space did in each call that is not refused
-module _ {A B : Type 0} (t : TlbMeaning A) (k : FramesMeaning B) (s u : Space A B) where
-  pub record Begins (p f : ℕ) : Type 0 where
-    pub none : mapping s.table p ≡ None
-    pub adds : Adds (waits s.fills) p f (waits u.fills)
-    pub takes : Takes k.stock k.out s.frames (Ok f) u.frames
-    pub stock : k.stock u.frames ≡ k.stock s.frames
-    pub step : k.allocated s.frames p (Ok f) u.frames
-    pub table : u.table ≡ s.table
-    pub tlb : u.tlb ≡ s.tlb
-
-  pub record Settles (p f : ℕ) (z : Translation) : Type 0 where
-    pub here : waits s.fills p ≡ Some f
-    pub maps : mapping u.table ≡ mapped (mapping s.table) p z
-    pub fills : waits u.fills ≡ at (waits s.fills) p None
-    pub tlb : u.tlb ≡ s.tlb
-    pub frames : u.frames ≡ s.frames
-
-  -- the frame f was freed, with the answer r
-  pub record Frees (f : ℕ) (r : Result (Unit {0}) FreeFault) : Type 0 where
-    pub gives : Gives k.out s.frames f r u.frames
-    pub stock : k.stock u.frames ≡ k.stock s.frames
-    pub step : k.freed s.frames f r u.frames
-
-  pub record Abandons (p f : ℕ) : Type 0 where
-    pub here : waits s.fills p ≡ Some f
-    pub fills : waits u.fills ≡ at (waits s.fills) p None
-    pub table : u.table ≡ s.table
-    pub tlb : u.tlb ≡ s.tlb
-
-  pub record Releases (p : ℕ) (x : Translation) : Type 0 where
-    pub here : mapping s.table p ≡ Some x
-    pub maps : mapping u.table ≡ released (mapping s.table) p
-    pub purged : Purged t s.tlb p u.tlb
-    pub fills : u.fills ≡ s.fills
-
-  pub record Protects (p x y : ℕ) : Type 0 where
-    pub accepted : Accepted (protect_refusals (mapping s.table) p x)
-    pub former : (z : Translation) × (mapping s.table p ≡ Some z) × (y ≡ z.attributes)
-    pub maps : mapping u.table ≡ protected (mapping s.table) p x
-    pub purged : Purged t s.tlb p u.tlb
-    pub fills : u.fills ≡ s.fills
-    pub frames : u.frames ≡ s.frames
+same_access : (a b : Access) → access_number a ≡ access_number b → a ≡ b
+same_access Read Read e = refl
+same_access Read Write e = absurd (omega arith)
+same_access Read Execute e = absurd (omega arith)
+same_access Write Read e = absurd (omega arith)
+same_access Write Write e = refl
+same_access Write Execute e = absurd (omega arith)
+same_access Execute Read e = absurd (omega arith)
+same_access Execute Write e = absurd (omega arith)
+same_access Execute Execute e = refl
 
 module _ {A B : Type 0} (t : TlbMeaning A) (k : FramesMeaning B) where
-  -- it suffices to look at the one map that a space stands for
-  pub by_own : (s u : Space A B) (e : Event)
-      → ((start : B) → Sound t k start (page_map s) (seen s) → Right t k (page_map s) (seen s) e (seen u) × (page_map u ≡ next (page_map s) e) × Sound t k start (next (page_map s) e) (seen u))
-      → Lawful t k s e u
-  by_own s u e f start m st =
-      subst (λ n. Right t k n (seen s) e (seen u) × Stands t k start (next n e) u) st.map
-      (let (r, i, d) = f start (subst (λ n. Sound t k start n (seen s)) (sym st.map) st.sound) in (r, record { map = i; sound = d }))
+  -- a call led from the map m and the state s to the map n and the state u, and its event is right
+  pub record Did (m n : PageMap) (s u : State A B) (e : Event) : Type 0 where
+    pub right : Right t k m s e u
+    pub becomes : n ≡ next m e
 
-  -- a refusal that changes nothing
-  pub refused : {X E : Type 0} (event : Result X E → Event) (G : E → Type 0) (s : Space A B) (r : Result X E) → IsErrAnd r G
-      → ((e : E) → G e → Right t k (page_map s) (seen s) (event (Err e)) (seen s)) → ((e : E) → next (page_map s) (event (Err e)) ≡ page_map s)
-      → Lawful t k s (event r) s
-  refused event G s (Ok x) a f n = absurd a
-  refused event G s (Err e) a f n = by_own s s (event (Err e)) (λ start d. (f e a, sym (n e), subst (λ m. Sound t k start m (seen s)) (sym (n e)) d))
+  -- each frame that is out is a frame of the machine
+  abbrev pub Small : Type 0
+  Small = (b : B) (f : ℕ) → k.out b f ≡ true → f < 2 ^ 28
 
-  -- begin is refused, and nothing has changed
-  begin_refused : (s u : Space A B) (a p : ℕ) (G : BeginFault → Type 0) (r : Result Fill BeginFault) → p ≡ page_of a → IsErrAnd r G
-      → ((e : BeginFault) → G e → First (begin_refusals k.stock k.out (page_map s) s.frames p) (begin_number e) × FrameRefused t k e s.frames p) → u ≡ s
-      → Lawful t k s (begun_event a r) u
-  begin_refused s u a p G r page is why same = subst (λ y. Lawful t k s (begun_event a r) y) (sym same) (refused (begun_event a) G s r is
-      (λ e g. let (first, step) = why e g in rw (sym page) (first, step, refl)) (λ e. refl))
+  pub sound_after : (m n : PageMap) (s u : State A B) (e : Event) → Small → Sound t k m s → Did m n s u e → Sound t k n u
+  sound_after m n s u e small d x = subst (λ v. Sound t k v u) (sym x.becomes) (stays t k small m s u e d x.right).0
 
-  -- the page is mapped
-  pub begin_mapped : (s : Space A B) (a p : ℕ) (o : Option Translation) → p ≡ page_of a → o ≡ mapping s.table p → is_some o ≡ true → Lawful t k s (Begin a (Err begin.Mapped)) s
-  begin_mapped s a p o page look some = let (x, here) = is_mapped o some in
-      begin_refused s s a p (λ e. e ≡ begin.Mapped) (Err begin.Mapped) page refl
-      (λ e i. subst (λ f. First (begin_refusals k.stock k.out (page_map s) s.frames p) (begin_number f) × FrameRefused t k f s.frames p) (sym i) ((x, sym look ∙ here), tt)) refl
+  pub begin_mapped : (h : Mapping) (l : Waits) (s : State A B) (a p : ℕ) → p ≡ page_of a → IsMapped h p → Did (record { pages = h; fills = l }) (record { pages = h; fills = l }) s s (event.Begin a (Err begin.Mapped))
+  begin_mapped h l s a p page here = record { right = rw (sym page) (record { first = here; same = refl }); becomes = refl }
 
-  -- the list of fills refuses the page
-  pub begin_unadmitted : (s u : Space A B) (a p : ℕ) (e : AddFault) (r : Result Fill BeginFault) → p ≡ page_of a → IsErrAnd r (BeginFromAdd e) → mapping s.table p ≡ None → Refuses e (waits s.fills) p → u ≡ s
-      → Lawful t k s (begun_event a r) u
-  begin_unadmitted s u a p e r page is none refuses = begin_refused s u a p (BeginFromAdd e) r page is (λ f i. why e f none refuses i)
-    where
-      why : (e : AddFault) (f : BeginFault) → mapping s.table p ≡ None → Refuses e (waits s.fills) p → BeginFromAdd e f → First (begin_refusals k.stock k.out (page_map s) s.frames p) (begin_number f) × FrameRefused t k f s.frames p
-      why e begin.Mapped none refuses i = absurd (add_numbers e i (inl refl))
-      why add.Waiting begin.Waiting none refuses i = (((λ (x, i). some_none i none), refuses), tt)
-      why add.TooMany begin.Waiting none refuses i = absurd (omega arith)
-      why add.Waiting begin.TooMany none refuses i = absurd (omega arith)
-      why add.TooMany begin.TooMany none (unfilled, full) i = (((λ (x, i). some_none i none), ((λ (x, i). some_none i unfilled), full)), tt)
-      why e begin.NoFrame none refuses i = absurd (add_numbers e i (inr refl))
+  pub begin_frameless : (h : Mapping) (l : Waits) (s u : State A B) (a p : ℕ) (e : AllocateFault) → p ≡ page_of a → h p ≡ None → Accepted (add_refusals l p)
+      → Takes k.stock k.out s.frames (Err e) u.frames → k.allocated s.frames p (Err e) u.frames → k.stock u.frames ≡ k.stock s.frames → u.tlb ≡ s.tlb
+      → Did (record { pages = h; fills = l }) (record { pages = h; fills = l }) s u (event.Begin a (Err begin.NoFrame))
+  begin_frameless h l s u a p AllOut page none (new, (few, _)) takes step stock tlb = record {
+    right = rw (sym page) (record {
+      first = ((λ (x, e). some_none e none), (new, (few, takes.0)));
+      allocated = record { step = step; takes = takes; stock_stays = stock };
+      same_tlb = tlb;
+    });
+    becomes = refl;
+  }
 
-  -- the allocator refuses
-  pub begin_frameless : (s u : Space A B) (a p : ℕ) (e : AllocateFault) (r : Result Fill BeginFault) → p ≡ page_of a → IsErrAnd r (λ f. f ≡ begin.NoFrame) → mapping s.table p ≡ None → Admits (waits s.fills) p
-      → NoneLeft k.stock k.out s.frames → k.allocated s.frames p (Err e) u.frames → u ≡ s → Lawful t k s (begun_event a r) u
-  begin_frameless s u a p AllOut r page is none (unfilled, few) left step same = begin_refused s u a p (λ f. f ≡ begin.NoFrame) r page is
-      (λ f i. subst (λ g. First (begin_refusals k.stock k.out (page_map s) s.frames p) (begin_number g) × FrameRefused t k g s.frames p) (sym i)
-      (((λ (x, i). some_none i none), ((λ (x, i). some_none i unfilled), (few, left))), subst (λ y. k.allocated s.frames p (Err AllOut) y.frames) same step)) same
+  pub begun : (h : Mapping) (l r : Waits) (s u : State A B) (a p f : ℕ) → p ≡ page_of a → h p ≡ None → Accepted (add_refusals l p) → r ≡ at l p (Some (underway f))
+      → Takes k.stock k.out s.frames (Ok f) u.frames → k.allocated s.frames p (Ok f) u.frames → k.stock u.frames ≡ k.stock s.frames → u.tlb ≡ s.tlb
+      → Did (record { pages = h; fills = l }) (record { pages = h; fills = r }) s u (event.Begin a (Ok f))
+  begun h l r s u a p f page none (new, (few, _)) fills takes step stock tlb = record {
+    right = rw (sym page) (record {
+      accepted = ((λ (x, e). some_none e none), (new, (few, (takes.0.0, tt))));
+      allocated = record { step = step; takes = takes; stock_stays = stock };
+      same_tlb = tlb;
+    });
+    becomes = rw (sym page) (ap (λ r. record { pages = h; fills = r }) fills);
+  }
+
+  pub settled : (h g : Mapping) (l r : Waits) (s : State A B) (p : Page) (fill : Underway) (x : ℕ) (z : Translation) → Accepted (map_refusals h p.number z) → z.frame ≡ fill.frame → z.attributes ≡ x
+      → l p.number ≡ Some fill → g ≡ mapped h p.number z → r ≡ at l p.number None
+      → Did (record { pages = h; fills = l }) (record { pages = g; fills = r }) s s (event.Settle p fill x (Ok fill.frame))
+  settled h g l r s p fill x z (_, accepted) frame attributes here maps fills =
+      let same : z ≡ translation fill.frame x = translation_is z fill.frame x frame attributes in
+      record {
+        right = record {
+          accepted = ((λ big. let b = z.bits in omega arith), ((λ no. no here), subst (λ y. Accepted (room_refusals h p.number y)) same accepted));
+          waited = here;
+          answered = refl;
+          same = refl;
+        };
+        becomes = ap₂ (λ a b. record { pages = a; fills = b }) (maps ∙ ap (mapped h p.number) same) fills;
+      }
+
+  -- no room in the table
+  pub unsettled : (h g : Mapping) (l : Waits) (s : State A B) (p : Page) (fill : Underway) (x : ℕ) (z : Translation) (e : MapFault) (r : Result ℕ SettleFault) → h p.number ≡ None
+      → First (map_refusals h p.number z) (map_number e) → z.frame ≡ fill.frame → z.attributes ≡ x → l p.number ≡ Some fill → IsErrAnd r (SettleFromMap e) → g ≡ h
+      → Did (record { pages = h; fills = l }) (record { pages = g; fills = l }) s s (event.Settle p fill x r)
+  unsettled h g l s p fill x z e r none first frame attributes here is same =
+      let m : PageMap = record { pages = h; fills = l } in
+      let small : (4095 < x) → ⊥ = λ big. let b = z.bits in omega arith in
+      let made : z ≡ translation fill.frame x = translation_is z fill.frame x frame attributes in
+      err_only (λ r. Did m (record { pages = g; fills = l }) s s (event.Settle p fill x r)) (SettleFromMap e) r is (λ f from. record {
+        right = record {
+          first = subst (λ y. First ((4095 < x, 5) ∷ (l p.number ≢ Some fill, 6) ∷ room_refusals h p.number y) (settle_number f)) made (lacks e f h p.number z none small (λ no. no here) first from);
+          same = refl;
+        };
+        becomes = ap (λ a. record { pages = a; fills = l }) same;
+      })
 
   -- a frame that is out is freed
-  freeing : (b c : B) (f : ℕ) (r : Result (Unit {0}) FreeFault) → Gives k.out b f r c → k.freed b f r c → k.out b f ≡ true → k.freed b f (Ok tt) c × (k.out c ≡ at (k.out b) f false)
-  freeing b c f (Ok x) e step o = (step, e.1)
-  freeing b c f (Err x) e step o = absurd (both_ways _ e.0 o)
+  pub freed : (a b : B) (f : ℕ) (r : Result (Unit {0}) FreeFault) → Gives k.out a f r b → k.freed a f r b → k.stock b ≡ k.stock a → k.out a f ≡ true → Freed k a f b
+  freed a b f (Ok x) gives step stock o = record { step = step; gives = gives; stock_stays = stock }
+  freed a b f (Err NotOut) gives step stock o = absurd (both_ways _ gives.0 o)
 
-  module _ (s u : Space A B) where
-    -- the TLB is as it was, and no page that it has is mapped otherwise
-    kept_pairs : (m n : Mapping) → u.tlb ≡ s.tlb → ((q : ℕ) (x : Translation) → m q ≡ Some x → n q ≡ Some x) → Coherent t m s.tlb → Coherent t n u.tlb
-    kept_pairs m n tlb same c q x h = same q x (c q x (subst (λ y. t.pairs y q x) tlb h))
+  pub not_freed : (a b : B) (f : ℕ) (e : FreeFault) → Gives k.out a f (Err e) b → k.out a f ≡ true → ⊥
+  not_freed a b f NotOut gives o = both_ways _ gives.0 o
 
-    -- the TLB was purged of the page that is mapped otherwise
-    purged_pairs : (m : Mapping) (p : ℕ) (o : Option Translation) → Purged t s.tlb p u.tlb → Coherent t m s.tlb → Coherent t (at m p o) u.tlb
-    purged_pairs m p o d c q x h = ⊎_elim
-        (λ e. absurd (d.gone x (subst (λ n. t.pairs u.tlb n x) e h)))
-        (λ ne. at_there m p o q ne ∙ c q x (d.within q x h))
-        (cases_eq q p)
+  pub abandoned : (h : Mapping) (l r : Waits) (s u : State A B) (p : Page) (fill : Underway) → l p.number ≡ Some fill → r ≡ at l p.number None → Freed k s.frames fill.frame u.frames → u.tlb ≡ s.tlb
+      → Did (record { pages = h; fills = l }) (record { pages = h; fills = r }) s u (event.Abandon p fill (Ok fill.frame))
+  abandoned h l r s u p fill here fills free tlb = record {
+    right = record { waited = here; answered = refl; freed = free; same_tlb = tlb };
+    becomes = ap (λ b. record { pages = h; fills = b }) fills;
+  }
 
-    pub begun : (a p f : ℕ) → p ≡ page_of a → Begins t k s u p f → Lawful t k s (Begin a (Ok f)) u
-    begun a p f page c = by_own s u (Begin a (Ok f)) (λ start d.
-        let h : Mapping = mapping s.table in
-        let l : ℕ → Option ℕ = waits s.fills in
-        let ((unfilled, few), now) = c.adds in
-        let (known, inside, out) = c.takes in
-        rw (sym page) (
-          (((λ (x, e). some_none e c.none), ((λ (x, e). some_none e unfilled), (few, ((λ all. both_ways _ inside (all f known)), tt)))), known, inside, c.step, c.tlb),
-          ap₂ (λ g r. record { pages = g; fills = r }) (ap mapping c.table) now,
+  pub released_one : (h g : Mapping) (l : Waits) (s u : State A B) (a p : ℕ) (x : Translation) → p ≡ page_of a → h p ≡ Some x → g ≡ released h p → Freed k s.frames x.frame u.frames → Purged t s.tlb p u.tlb
+      → Did (record { pages = h; fills = l }) (record { pages = g; fills = l }) s u (event.Release a (Ok x))
+  released_one h g l s u a p x page here maps free purge = record {
+    right = rw (sym page) (record { here = here; freed = free; purged = purge });
+    becomes = rw (sym page) (ap (λ b. record { pages = b; fills = l }) maps);
+  }
+
+  pub protected_one : (h g : Mapping) (l : Waits) (s u : State A B) (a p x y : ℕ) → p ≡ page_of a → Accepted (protect_refusals h p x) → ((z : Translation) × (h p ≡ Some z) × (y ≡ z.attributes))
+      → g ≡ protected h p x → Purged t s.tlb p u.tlb → u.frames ≡ s.frames
+      → Did (record { pages = h; fills = l }) (record { pages = g; fills = l }) s u (event.Protect a x (Ok y))
+  protected_one h g l s u a p x y page accepted (z, here, answer) maps purge frames = record {
+    right = rw (sym page) (record { accepted = accepted; former = z; here = here; answered = answer; purged = purge; same_frames = frames });
+    becomes = rw (sym page) (ap (λ b. record { pages = b; fills = l }) maps);
+  }
+
+  pub unprotected : (h g : Mapping) (l : Waits) (s : State A B) (a p x : ℕ) (e : ProtectFault) (r : Result ℕ ProtectFault) → p ≡ page_of a → IsErrAnd r (λ f. f ≡ e)
+      → First (protect_refusals h p x) (protect_number e) → g ≡ h → Did (record { pages = h; fills = l }) (record { pages = g; fills = l }) s s (event.Protect a x r)
+  unprotected h g l s a p x e r page is first same =
+      err_only (λ r. Did (record { pages = h; fills = l }) (record { pages = g; fills = l }) s s (event.Protect a x r)) (λ f. f ≡ e) r is (λ f i. record {
+        right = rw (sym page) (record { first = subst (λ c. First (protect_refusals h p x) (protect_number c)) (sym i) first; same = refl });
+        becomes = ap (λ b. record { pages = b; fills = l }) same;
+      })
+
+  module _ (h : Mapping) (l : Waits) (s u : State A B) (a p x : ℕ) (c : Access) (page : p ≡ page_of a) (number : access_number c ≡ x) (frames : u.frames ≡ s.frames) where
+    abbrev m : PageMap
+    m = record { pages = h; fills = l }
+
+    good : BadAccess x → ⊥
+    good bad = bad c number
+
+    pub untouched : (r : Result Touched TouchFault) → IsErrAnd r (λ e. e ≡ touch.NotMapped) → h p ≡ None → ProbedInVain t s.tlb p u.tlb → Did m m s u (event.Touch a x r)
+    untouched r is none probed = err_only (λ r. Did m m s u (event.Touch a x r)) (λ e. e ≡ touch.NotMapped) r is (λ e i.
+        subst (λ f. Did m m s u (event.Touch a x (Err f))) (sym i) (record { right = rw (sym page) (record { first = (good, none); probed = probed; same_frames = frames }); becomes = refl }))
+
+    module _ (z : Translation) (q : Mark) (looked : LookedUp t h q s.tlb p z u.tlb) where
+      pub denied : allowed z.attributes c ≡ false → Did m m s u (event.Touch a x (Err touch.Denied))
+      denied lack = record {
+        right = rw (sym page) (record { first = (good, ((λ n. some_none looked.here n), (c, z, number, looked.here, lack))); mark = q; found = z; looked_up = looked; same_frames = frames });
+        becomes = refl;
+      }
+
+      pub touched : (d : Touched) → allowed z.attributes c ≡ true → d.physical ≡ z.frame * 4096 + a % 4096 → d.mark ≡ q → Did m m s u (event.Touch a x (Ok d))
+      touched d may physical mark =
+          let lets : (b : Access) (y : Translation) → access_number b ≡ x → h p ≡ Some y → allowed y.attributes b ≡ false → ⊥ = λ b y n e f.
+          both_ways _ (ap₂ (λ (v : Translation) g. allowed v.attributes g) (same_some looked.here e) (same_access c b (number ∙ sym n)) ∙ f) may in
           record {
-            coherent = kept_pairs h h c.tlb (λ q x e. e) d.coherent;
-            accounted = taken k.stock k.out start s.frames u.frames (page_map s) _ p f d.accounted c.stock (fill_waits h l p d.accounted.waits f c.none)
-                (ap (λ y. frame_of y (l p)) c.none ∙ unfilled) inside out (fill_frames h l p f c.none);
-          },
-        ))
+            right = record {
+              accepted = rw (sym page) (good, ((λ n. some_none looked.here n), ((λ (b, y, n, e, f). lets b y n e f), tt)));
+              found = z;
+              answered = physical;
+              looked_up = rw (sym page) (subst (λ v. LookedUp t h v s.tlb p z u.tlb) (sym mark) looked);
+              same_frames = frames;
+            };
+            becomes = refl;
+          }
 
-    pub settled : (p : Page) (f x : ℕ) (z : Translation) → Accepted (map_refusals (mapping s.table) p.number z) → z.frame ≡ f → z.attributes ≡ x → Settles t k s u p.number f z
-        → Lawful t k s (Settle p f x (Ok f)) u
-    settled p f x z (_, accepted) frame attributes c = by_own s u (Settle p f x (Ok f)) (λ start d.
-        let h : Mapping = mapping s.table in
-        let l : ℕ → Option ℕ = waits s.fills in
-        let n : PageMap = record { pages = mapped h p.number z; fills = at l p.number None } in
-        let same : z ≡ translation f x = translation_is z f x frame attributes in
-        let none : h p.number ≡ None = d.accounted.waits f p.number c.here in (
-          (((λ big. let b = z.bits in omega arith), ((λ no. no c.here), subst (λ y. Accepted (room_refusals h p.number y)) same accepted)), c.here, refl, ap₂ (λ a b. record { tlb = a; frames = b }) c.tlb c.frames),
-          ap₂ (λ g r. record { pages = g; fills = r }) (c.maps ∙ ap (mapped h p.number) same) c.fills,
-          subst (λ y. Sound t k start (record { pages = mapped h p.number y; fills = at l p.number None }) (seen u)) same
-              (record {
-                coherent = kept_pairs h (mapped h p.number z) c.tlb (λ q x e. at_there h p.number (Some z) q (λ i. some_none e (ap h i ∙ none)) ∙ e) d.coherent;
-                accounted = subst (λ b. Accounted k.stock k.out start n b) (sym c.frames)
-                    (moved k.stock k.out start s.frames (page_map s) n d.accounted
-                    (unfill_waits h l p.number d.accounted.waits (mapped h p.number z) (λ q ne e. at_there h p.number (Some z) q ne ∙ e))
-                    (settle_frames h l p.number z none (c.here ∙ ap Some (sym frame))));
-              }),
-        ))
+  pub walked : (m : PageMap) (s : State A B) (a p : ℕ) (r : Result Walked NotMapped) → p ≡ page_of a
+      → MatchResult r (λ w. Walks m.pages p w) (λ _. First (mapped_refusals m.pages p) not_mapped_number) → Did m m s s (event.Walk a r)
+  walked m s a p (Ok w) page f = record { right = rw (sym page) (record { walks = f; same = refl }); becomes = refl }
+  walked m s a p (Err e) page f = record { right = rw (sym page) (record { first = f; same = refl }); becomes = refl }
 
-    pub abandoned : (p : Page) (f : ℕ) (r : Result (Unit {0}) FreeFault) → Abandons t k s u p.number f → Frees t k s u f r → Lawful t k s (Abandon p f (Ok f)) u
-    abandoned p f r c g = by_own s u (Abandon p f (Ok f)) (λ start d.
-        let h : Mapping = mapping s.table in
-        let l : ℕ → Option ℕ = waits s.fills in
-        let none : h p.number ≡ None = d.accounted.waits f p.number c.here in
-        let had : frame_at (page_map s) p.number ≡ Some f = ap (λ y. frame_of y (l p.number)) none ∙ c.here in
-        let (freed, out) = freeing s.frames u.frames f r g.gives g.step (d.accounted.is_out f p.number had) in (
-          (c.here, refl, freed, c.tlb),
-          ap₂ (λ g r. record { pages = g; fills = r }) (ap mapping c.table) c.fills,
-          record {
-            coherent = kept_pairs h h c.tlb (λ q x e. e) d.coherent;
-            accounted = given k.stock k.out start s.frames u.frames (page_map s) _ p.number f d.accounted g.stock
-                (unfill_waits h l p.number d.accounted.waits h (λ q ne e. e)) had out (unfill_frames h l p.number none);
-          },
-        ))
+  -- the entry e has the word of a walk for the page p, and the TLB, which had no pair, took it in
+  pub filled : (m : Mapping) (a v b : A) (p : ℕ) (w : Walked) (e : Entry) (x : Translation) → e.page.number ≡ p → e.word ≡ w.word → Walks m p w → m p ≡ Some x
+      → ProbedInVain t a p v → t.loaded v e p b → Loads t.pairs v e p b → LookedUp t m Missed a p x b
+  filled m a v b p w e x page word walks here probed step loads =
+      let stands : StandsFor m p (form_of e.word) (bits_of e.word) = subst (λ z. StandsFor m p (form_of z) (bits_of z)) (sym word) walks.word in
+      let own : StandsFor m e.page.number (form_of e.word) (bits_of e.word) = subst (λ q. StandsFor m q (form_of e.word) (bits_of e.word)) (sym page) stands in
+      let says : entry_says e p ≡ Some x = ap (entry_says e) (sym page) ∙ own_says m e own ∙ ap m page ∙ here in
+      let took : TlbTakes t.pairs v e p x b = subst (λ o. MatchOption o (SamePairs t.pairs v b) (λ y. TlbTakes t.pairs v e p y b)) says loads in
+      record {
+        here = here;
+        marked = probed.lacks;
+        asked = (v, probed, record { entry = e; is_entry = record { of_page = page; stands = stands }; loaded = step; loads = loads });
+        pair = took.has;
+      }
 
-    pub released_one : (a p : ℕ) (x : Translation) (r : Result (Unit {0}) FreeFault) → p ≡ page_of a → Releases t k s u p x → Frees t k s u x.frame r → Lawful t k s (Release a (Ok x)) u
-    released_one a p x r page c g = by_own s u (Release a (Ok x)) (λ start d.
-        let h : Mapping = mapping s.table in
-        let l : ℕ → Option ℕ = waits s.fills in
-        let had : frame_at (page_map s) p ≡ Some x.frame = ap (λ y. frame_of y (l p)) c.here in
-        let (freed, out) = freeing s.frames u.frames x.frame r g.gives g.step (d.accounted.is_out x.frame p had) in
-        rw (sym page) (
-          (c.here, freed, c.purged),
-          ap₂ (λ g r. record { pages = g; fills = r }) c.maps (ap waits c.fills),
-          record {
-            coherent = purged_pairs h p None c.purged d.coherent;
-            accounted = given k.stock k.out start s.frames u.frames (page_map s) _ p x.frame d.accounted g.stock
-                (change_waits h l p d.accounted.waits None (λ e. refl)) had out (release_frames h l p (unfilled h l p d.accounted.waits x c.here));
-          },
-        ))
+  pub hit : (m : Mapping) (a b : A) (p : ℕ) (x : Translation) → Coherent t m a → t.probed a p (Some x) b → Answers t.pairs a p (Some x) b → Within t.pairs a b → LookedUp t m Hit a p x b
+  hit m a b p x c step (before, after) within = record { here = c p x before; marked = (x, before); asked = (step, within); pair = after }
 
-    pub protected_one : (a p x y : ℕ) → p ≡ page_of a → Protects t k s u p x y → Lawful t k s (Protect a x (Ok y)) u
-    protected_one a p x y page c = by_own s u (Protect a x (Ok y)) (λ start d.
-        let h : Mapping = mapping s.table in
-        let l : ℕ → Option ℕ = waits s.fills in
-        let n : PageMap = record { pages = protected h p x; fills = l } in
-        rw (sym page) (
-          (c.accepted, c.former, c.frames, c.purged),
-          ap₂ (λ g r. record { pages = g; fills = r }) c.maps (ap waits c.fills),
-          record {
-            coherent = purged_pairs h p _ c.purged d.coherent;
-            accounted = subst (λ b. Accounted k.stock k.out start n b) (sym c.frames)
-                (moved k.stock k.out start s.frames (page_map s) n d.accounted
-                (change_waits h l p d.accounted.waits _ (λ e. ap (option_map (λ w. translation w.frame x)) e))
-                (protect_frames h l p x));
-          },
-        ))
+  -- an answer that is known to be Ok
+  pub only_ok : {X E : Type 0} (P : X → Type 0) (Q : E → Type 0) (r : Result X E) → MatchResult r P Q → ((e : E) → Q e → ⊥) → (x : X) × P x
+  only_ok P Q (Ok x) p f = (x, p)
+  only_ok P Q (Err e) q f = absurd (f e q)
 
-    pub unprotected : (a p x : ℕ) (e : ProtectFault) (r : Result ℕ ProtectFault) → p ≡ page_of a → IsErrAnd r (λ f. f ≡ e) → First (protect_refusals (mapping s.table) p x) (protect_number e)
-        → u ≡ s → Lawful t k s (Protect a x r) u
-    unprotected a p x e r page is first same = subst (λ y. Lawful t k s (Protect a x r) y) (sym same) (refused (Protect a x) (λ f. f ≡ e) s r is
-        (λ f i. (rw (sym page) (subst (λ g. First (protect_refusals (mapping s.table) p x) (protect_number g)) (sym i) first), refl)) (λ f. refl))
+module _ {A B : Type 0} {t : tlb.Ghosts A} {k : allocator.Ghosts B} where
+  pub lawful : (s u : Space A B t k) (e : Event) → Small t.meaning k.meaning → Did t.meaning k.meaning (page_map s) (page_map u) (seen s) (seen u) e → Lawful s e u
+  lawful s u e small d = record {
+    right = d.right;
+    becomes = d.becomes;
+    accounts = λ start a. subst (λ n. Accounted k.meaning start n u.frames) (sym d.becomes)
+        ((stays t.meaning k.meaning small (page_map s) (seen s) (seen u) e s.sound d.right).1 start (record { sound = s.sound; accounted = a })).accounted;
+  }
 
-    -- no room in the table
-    pub unsettled : (p : Page) (f x : ℕ) (z : Translation) (e : MapFault) (r : Result ℕ SettleFault) → First (map_refusals (mapping s.table) p.number z) (map_number e) → z.frame ≡ f → z.attributes ≡ x
-        → waits s.fills p.number ≡ Some f → IsErrAnd r (SettleFromMap e) → u ≡ s → Lawful t k s (Settle p f x r) u
-    unsettled p f x z e (Ok g) first frame attributes here a same = absurd a
-    unsettled p f x z e (Err g) first frame attributes here a same = by_own s u (Settle p f x (Err g)) (λ start d.
-        let h : Mapping = mapping s.table in
-        let none : h p.number ≡ None = d.accounted.waits f p.number here in
-        let small : (4095 < x) → ⊥ = λ big. let b = z.bits in omega arith in
-        let is : z ≡ translation f x = translation_is z f x frame attributes in
-        let why : First (settle_refusals (page_map s) p.number f x) (settle_number g) = subst (λ y. First ((4095 < x, 5) ∷ (waits s.fills p.number ≢ Some f, 6) ∷ room_refusals h p.number y) (settle_number g)) is (lacks e g h p.number z none small (λ no. no here) first a) in
-        ((why, ap seen same), ap page_map same, subst (λ y. Sound t k start (page_map s) (seen y)) (sym same) d))
+  -- begin was refused for want of a frame
+  pub frameless : (s u : Space A B t k) (a : ℕ) (r : Result Fill BeginFault) → Small t.meaning k.meaning → IsErrAnd r (λ f. f ≡ begin.NoFrame)
+      → Did t.meaning k.meaning (page_map s) (page_map u) (seen s) (seen u) (event.Begin a (Err begin.NoFrame)) → Lawful s (begun_event a r) u
+  frameless s u a r small is d = err_only (λ r. Lawful s (begun_event a r) u) (λ f. f ≡ begin.NoFrame) r is
+      (λ f i. subst (λ b. Lawful s (begun_event a (Err b)) u) (sym i) (lawful s u (event.Begin a (Err begin.NoFrame)) small d))

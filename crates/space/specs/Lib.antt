@@ -1,2 +1,4 @@
+pub mod Kept
 pub mod Fill
 pub mod Space
+pub mod Plain

@@ -1,18 +1,17 @@
 // A fill under way, as its holder has it.
 ghost use Rattle.std.specs.Prelude.{◌≡◌};
-ghost use Rattle.space.specs.declared.fill.Fill.{Fill as AFill};
 
 use crate::space::Space;
-use fills::NoFill;
+use fills::Underway;
 use frames::FrameAllocator;
-use law::SettleFault;
+use law::{AbandonFault, SettleFault};
 use tlb::Tlb;
 use words::Page;
 
 // A page that waits for its translation, with the frame that was taken for it. It has no `Drop`: it is settled or abandoned, and never let go.
 pub struct Fill {
     pub(crate) page: Page,
-    pub(crate) frame: u32,
+    pub(crate) underway: Underway,
 }
 
 // A fill that was not settled comes back with the reason.
@@ -22,7 +21,7 @@ pub struct Unsettled {
 }
 
 impl Fill {
-    ghost use Rattle.space.specs.Fill.{fill_page, fill_frame};
+    ghost use Rattle.space.specs.Fill.{fill_page, fill_underway};
     ghost use Rattle.space.specs.Space.{Lawful, settled, abandoned, FillBack, SettleLeaves, AbandonLeaves};
 
     // The page that waits.
@@ -34,9 +33,9 @@ impl Fill {
 
     // The frame that was taken for it.
     pub fn frame(&self) -> u32
-        ensures { result ≡ fill_frame self.now }
+        ensures { result ≡ (fill_underway self.now).frame }
     {
-        self.frame
+        self.underway.frame
     }
 
     // Maps the page to its frame, with these attributes; the frame.
@@ -45,26 +44,26 @@ impl Fill {
         space: &mut Space<T, F>,
         attributes: u16,
     ) -> Result<u32, Unsettled>
-        ensures law { Lawful T.Tlb.meaning F.FrameAllocator.meaning space.old (settled self attributes result) space.new }
+        ensures law { Lawful space.old (settled self attributes result) space.new }
         ensures back { FillBack self result }
-        ensures leaves { SettleLeaves space.old (fill_frame self) result space.new }
+        ensures leaves { SettleLeaves space.old result space.new }
     {
-        let Fill { page, frame } = self;
-        match space.settle(page, frame, attributes) {
+        let Fill { page, underway } = self;
+        match space.settle(page, underway, attributes) {
             Ok(frame) => Ok(frame),
             Err(fault) => Err(Unsettled {
-                fill: Fill { page, frame },
+                fill: Fill { page, underway },
                 fault,
             }),
         }
     }
 
     // Gives the frame back; the frame. The fill is spent in either case.
-    pub fn abandon<T: Tlb, F: FrameAllocator>(self, space: &mut Space<T, F>) -> Result<u32, NoFill>
-        ensures law { Lawful T.Tlb.meaning F.FrameAllocator.meaning space.old (abandoned self result) space.new }
-        ensures leaves { AbandonLeaves space.old (fill_frame self) result space.new }
+    pub fn abandon<T: Tlb, F: FrameAllocator>(self, space: &mut Space<T, F>) -> Result<u32, AbandonFault>
+        ensures law { Lawful space.old (abandoned self result) space.new }
+        ensures leaves { AbandonLeaves space.old result space.new }
     {
-        let Fill { page, frame } = self;
-        space.abandon(page, frame)
+        let Fill { page, underway } = self;
+        space.abandon(page, underway)
     }
 }

@@ -2,12 +2,15 @@
 #![tactic(auto)]
 
 mod fill;
-mod run;
+mod plain;
 mod space;
 
 pub use fill::{Fill, Unsettled};
-pub use fills::NoFill;
-pub use law::{BeginFault, Call, Census, Event, Mark, SettleFault, TouchFault, Touched};
-pub use run::replay;
+pub use fills::Underway;
+pub use law::{
+    AbandonFault, BeginFault, Call, Census, Event, Mark, ReleaseFault, SettleFault, TouchFault,
+    Touched,
+};
+pub use plain::{PlainSpace, replay};
 pub use space::Space;
 pub use table::{NotMapped, ProtectFault, Walked};

@@ -1,28 +1,60 @@
-use Rattle.std.proofs.Common.{sym, ◌∙◌, rules}
-use Rattle.table.proofs.Tables.{not_mapped}
-use Rattle.space.proofs.Steps.{not_refused, begin_mapped, begin_unadmitted, begin_frameless, begun}
+use Rattle.std.proofs.Common.{sym, refl, ◌∙◌}
+use Rattle.table.specs.Table.{mapping}
+use Rattle.table.proofs.Tables.{is_mapped, not_mapped}
+use Rattle.fills.specs.Fills.{fill_of}
+use Rattle.space.specs.Space.{seen}
+use Rattle.space.proofs.Steps.{sound_after, begin_mapped, begin_frameless, begun, lawful, frameless, not_refused, only_ok}
 use Rattle.space.proofs.space.Space.begin.Goals as goal
 
 pub returns-then-is_some-clause-law : goal.returns-then-is_some-clause-law
 returns-then-is_some-clause-law g c =
-    begin_mapped g.T.Tlb.meaning g.F.FrameAllocator.meaning c.args.self.now c.args.address _ c.lookup.result c.of_address-page.ensures (search rules) (sym c.is_some.ensures ∙ c.if-is_some.true)
+    let s = c.args.self.now in
+    let f = g.met.F.FrameAllocator in
+    let (x, here) = is_mapped c.lookup.result (sym c.is_some.ensures ∙ c.if-is_some.true) in
+    lawful s s _ (λ b n out. f.small b n (f.within b n out))
+    (begin_mapped g.T.Tlb.meaning g.F.FrameAllocator.meaning (mapping s.table) (fill_of s.fills) (seen s) c.args.address c.of_address-page.result.number c.of_address-page.ensures (x, sym c.lookup.ensures ∙ here))
 
-pub returns-in_err-admits-clause-law : goal.returns-in_err-admits-clause-law
-returns-in_err-admits-clause-law g c =
+pub invariant_of-self : goal.invariant_of-self
+invariant_of-self g c =
+    let s = c.args.self.now in
+    let f = g.met.F.FrameAllocator in
     let none = sym c.lookup.ensures ∙ not_mapped c.lookup.result (sym c.is_some.ensures ∙ c.if-is_some.false) in
-    begin_unadmitted g.T.Tlb.meaning g.F.FrameAllocator.meaning c.args.self.now _ c.args.address c.of_address-page.result.number c.in_err-admits.field-0.0 c.from_residual.result c.of_address-page.ensures
-    (search rules) none (search (rules, c.in_err-admits.ensures)) (search rules)
+    let e = c.in_err-frame.ensures in
+    record {
+      sound = sound_after g.T.Tlb.meaning g.F.FrameAllocator.meaning _ _ (seen s) _ _ (λ b n out. f.small b n (f.within b n out)) s.sound
+          (begin_frameless g.T.Tlb.meaning g.F.FrameAllocator.meaning (mapping s.table) (fill_of s.fills) (seen s) (record { tlb = s.tlb; frames = c.allocate.new.self }) c.args.address c.of_address-page.result.number c.in_err-frame.field-0.0
+          c.of_address-page.ensures none c.in_ok-admits.ensures e.takes e.step e.stock refl);
+    }
 
 pub returns-in_err-frame-clause-law : goal.returns-in_err-frame-clause-law
 returns-in_err-frame-clause-law g c =
+    let s = c.args.self.now in
+    let f = g.met.F.FrameAllocator in
     let none = sym c.lookup.ensures ∙ not_mapped c.lookup.result (sym c.is_some.ensures ∙ c.if-is_some.false) in
-    begin_frameless g.T.Tlb.meaning g.F.FrameAllocator.meaning c.args.self.now _ c.args.address c.of_address-page.result.number c.in_err-frame.field-0.0 c.from_residual-in_err-frame.result c.of_address-page.ensures
-    (search rules) none (search (rules, c.in_ok-admits.ensures)) (search (rules, c.in_err-frame.ensures)) (search (rules, c.in_err-frame.ensures)) (search (rules, c.in_err-frame.ensures))
+    let e = c.in_err-frame.ensures in
+    frameless s _ c.args.address c.from_residual-in_err-frame.result (λ b n out. f.small b n (f.within b n out)) c.from_residual-in_err-frame.ensures.1
+    (begin_frameless g.T.Tlb.meaning g.F.FrameAllocator.meaning (mapping s.table) (fill_of s.fills) (seen s) (record { tlb = s.tlb; frames = c.allocate.new.self }) c.args.address c.of_address-page.result.number c.in_err-frame.field-0.0
+    c.of_address-page.ensures none c.in_ok-admits.ensures e.takes e.step e.stock refl)
 
-pub returns-in_err-add-clause-law : goal.returns-in_err-add-clause-law
-returns-in_err-add-clause-law g c = absurd (not_refused c.in_err-add.field-0.0 _ _ c.in_ok-admits.ensures (search (rules, c.in_err-add.ensures)))
+pub invariant_of-self-2 : goal.invariant_of-self-2
+invariant_of-self-2 g c =
+    let s = c.args.self.now in
+    let f = g.met.F.FrameAllocator in
+    let none = sym c.lookup.ensures ∙ not_mapped c.lookup.result (sym c.is_some.ensures ∙ c.if-is_some.false) in
+    let (_, added) = only_ok g.T.Tlb.meaning g.F.FrameAllocator.meaning _ _ c.add.result c.add.ensures (λ e q. not_refused (fill_of s.fills) c.of_address-page.result.number e c.in_ok-admits.ensures q.0) in
+    let e = c.in_ok-frame.ensures in
+    record {
+      sound = sound_after g.T.Tlb.meaning g.F.FrameAllocator.meaning _ _ (seen s) _ _ (λ b n out. f.small b n (f.within b n out)) s.sound
+          (begun g.T.Tlb.meaning g.F.FrameAllocator.meaning (mapping s.table) (fill_of s.fills) (fill_of c.add.new.self) (seen s) (record { tlb = s.tlb; frames = c.allocate.new.self }) c.args.address c.of_address-page.result.number c.in_ok-frame.frame
+          c.of_address-page.ensures none c.in_ok-admits.ensures added.1 e.takes e.step e.stock refl);
+    }
 
 pub returns-clause-law : goal.returns-clause-law
 returns-clause-law g c =
+    let s = c.args.self.now in
+    let f = g.met.F.FrameAllocator in
     let none = sym c.lookup.ensures ∙ not_mapped c.lookup.result (sym c.is_some.ensures ∙ c.if-is_some.false) in
-    begun g.T.Tlb.meaning g.F.FrameAllocator.meaning c.args.self.now _ c.args.address _ c.in_ok-frame.frame c.of_address-page.ensures (search (rules, none, c.in_ok-frame.ensures, c.in_ok-add.ensures))
+    let e = c.in_ok-frame.ensures in
+    lawful s _ _ (λ b n out. f.small b n (f.within b n out))
+    (begun g.T.Tlb.meaning g.F.FrameAllocator.meaning (mapping s.table) (fill_of s.fills) (fill_of c.add.new.self) (seen s) (record { tlb = s.tlb; frames = c.allocate.new.self }) c.args.address c.of_address-page.result.number c.in_ok-frame.frame
+    c.of_address-page.ensures none c.in_ok-admits.ensures c.in_ok-add.ensures.1 e.takes e.step e.stock refl)

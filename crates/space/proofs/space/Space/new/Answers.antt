@@ -1,0 +1,8 @@
+use Rattle.std.proofs.Common.{rules}
+use Rattle.law.proofs.Steps.{empty_sound}
+use Rattle.space.proofs.space.Space.new.Goals as goal
+
+pub invariant_of-result : goal.invariant_of-result
+invariant_of-result g c = record {
+  sound = empty_sound g.T.Tlb.meaning g.F.FrameAllocator.meaning _ _ c.new.ensures c.new-2.ensures (λ p x h. c.flush.ensures.gone p x h);
+}
