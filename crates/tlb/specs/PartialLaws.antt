@@ -17,10 +17,10 @@ use Rattle.tlb.specs.declared.entry.Entry.{Entry}
 use Rattle.tlb.specs.declared.partial_slot.PartialSlot.{PartialSlot}
 use Rattle.tlb.specs.declared.partial_slot.PartialSlot.TheVariants.{Subblock, Single}
 use Rattle.tlb.specs.Entries.{reaches, entry_says, word_offsets, entry_offsets}
-use Rattle.tlb.specs.PartialSlots.{block_held, IsSlot, BlockRoom}
+use Rattle.tlb.specs.PartialSlots.{block_held, of_block, IsSlot, BlockRoom}
 use Rattle.tlb.specs.Choices.{kept, left}
 use Rattle.tlb.specs.Slots.{HeldOnce, Says, RoomFor}
-use Rattle.tlb.specs.Clearing.{names, one_page, slot_cleared}
+use Rattle.tlb.specs.Clearing.{one_page, slot_cleared}
 
 -- what a word at the page p says of the page q, as an entry has it
 abbrev says : Word → ℕ → ℕ → Option Translation
@@ -34,7 +34,7 @@ says_said : (w : Word) (p q : ℕ) → says w p q ≡ cond (reaches (form_of w) 
 says_said w p q = ap (λ x. cond (reaches (form_of w) p q) x None) (ap result_ok (value_reading w (offset_of q) (omega arith)) ∙ ok_answer (said (form_of w) (bits_of w) (offset_of q)))
 
 -- what an entry says of a page is among the pages that it clears
-said_named : (w : Word) (p q : ℕ) (t : Translation) → says w p q ≡ Some t → names (block_of p) (word_offsets (form_of w) p (bits_of w)) q ≡ true
+said_named : (w : Word) (p q : ℕ) (t : Translation) → says w p q ≡ Some t → of_block (block_of p) (word_offsets (form_of w) p (bits_of w)) q ≡ true
 said_named (Compact c) p q t e =
     let (i, j) = kept (eqb (block_of q) (block_of p)) (said form.Compact c.bits (offset_of q)) t (sym (says_said (Compact c) p q) ∙ e) in
     and_from (eqb (block_of q) (block_of p)) (bit (offsets_in c.bits) (offset_of q)) i (kept (bit (offsets_in c.bits) (offset_of q)) _ t j).0
@@ -78,6 +78,6 @@ frees xs e p t n at ys once s m (_, (long, each)) =
     let os = entry_offsets e in
     record {
       long = long;
-      within = λ k d q x l h. (left (names b os q) _ x (sym (slot_cleared b os _ _ (each k d l) q) ∙ h)).1;
-      free = λ k d q x l away h. slot_cleared b os _ _ (each k d l) q ∙ cond-true _ _ _ (said_named e.word e.page.number q x (sym (slot_says e p t n m s q) ∙ h));
+      within = λ k d q x l h. (left (of_block b os q) _ x (sym (slot_cleared (of_block b os) _ _ (each k d l) q) ∙ h)).1;
+      free = λ k d q x l away h. slot_cleared (of_block b os) _ _ (each k d l) q ∙ cond-true _ _ _ (said_named e.word e.page.number q x (sym (slot_says e p t n m s q) ∙ h));
     }
