@@ -1,13 +1,13 @@
 -- What a slot for pages of one block holds after some of its offsets are cleared. These are lemmas, and nothing to believe: an `impl` may
 -- cite the proof of its law only from here.
-use Rattle.std.specs.Prelude.{◌≡◌, ◌≢◌, ℕ, zero, suc, ◌+◌, ◌*◌, ◌/◌, ◌%◌, ◌^◌, ◌<◌, ◌⊎◌, Bool, true, false, cond, not, ◌&&◌, Some, None, Option, MatchBool, ◌==◌, nat_eq, nat_lt, refl}
+use Rattle.std.specs.Prelude.{◌≡◌, ◌≢◌, ℕ, ◌+◌, ◌*◌, ◌^◌, ◌<◌, ◌⊎◌, Bool, true, false, cond, not, ◌&&◌, Some, None, Option, MatchBool, ◌==◌, nat_lt, refl}
 use Rattle.std.proofs.Common.{sym, ap, ap₂, ◌∙◌, inl, inr, ⊎_elim, arith, subst}
-use Rattle.std.proofs.lemmas.Bool.{cases_Bool, cases_lt, ltb-true, both_ways, eqb-true, eqb-false, eq-eqb, ne_eqb, and_parts, and_from, cond-true, cond-false}
+use Rattle.std.proofs.lemmas.Bool.{cases_Bool, cases_lt, ltb-true, both_ways, eqb-true, eqb-false, eq-eqb, and_parts, and_from, cond-true, cond-false}
 use Rattle.words.specs.declared.translation.Translation.{Translation}
 use Rattle.words.specs.declared.address.Block.{Block}
 use Rattle.words.specs.declared.compact.CompactWord.{CompactWord}
 use Rattle.words.specs.declared.form.Form.TheVariants as form
-use Rattle.words.specs.Layout.{bit, block_of, offset_of, page_at, offsets_in, frame_block_in, attributes_in, compact_word, Meet, Offsets, minus}
+use Rattle.words.specs.Layout.{bit, block_of, offset_of, page_at, offsets_in, frame_block_in, attributes_in, Meet, Offsets, minus}
 use Rattle.words.specs.Reading.{translation, said}
 use Rattle.words.proofs.Flip.{one_bit, high_bit, some_bit}
 use Rattle.tlb.specs.declared.page_slot.PageSlot.{PageSlot}
@@ -15,7 +15,7 @@ use Rattle.tlb.specs.declared.partial_slot.PartialSlot.{PartialSlot}
 use Rattle.tlb.specs.declared.partial_slot.PartialSlot.TheVariants.{Subblock, Single}
 use Rattle.tlb.specs.PageSlots.{page_held}
 use Rattle.tlb.specs.PartialSlots.{block_held, at_offsets, of_block, HoldsSome, AllButOffsets, Loses, Cleared}
-use Rattle.tlb.specs.Choices.{kept, none_either}
+use Rattle.tlb.specs.Choices.{none_either}
 use Rattle.tlb.specs.Slots.{in_slot, Becomes}
 
 -- a page that a subblock holds is of its block, and at an offset of its word

@@ -1,12 +1,11 @@
 // A slot for pages of one block.
-ghost use Rattle.std.specs.Prelude.{MatchBool};
+ghost use Rattle.std.specs.Prelude.{true, IsSomeAnd, MatchBool};
 ghost use Rattle.tlb.specs.PartialSlots.{block_held, block_dropped, at_offsets, of_block, HoldsSome, Loses, IsSlot, BlockRoom};
 ghost use Rattle.tlb.specs.Slots.{Becomes};
-ghost use Rattle.tlb.specs.Clearing;
 ghost use Rattle.tlb.specs.PartialLaws;
 
+use crate::enter::Enter;
 use crate::entry::Entry;
-use crate::fill::Fill;
 use crate::page_slot::PageSlot;
 use crate::slot::Slot;
 use words::{Block, CompactWord, OffsetSet, Page, Translation, Word};
@@ -66,7 +65,9 @@ impl Slot for PartialSlot {
 
     ghost dropped = { block_dropped };
 
-    ghost drops = { λ s p u d. d.loses.pages };
+    ghost kept = { λ xs. true };
+
+    ghost slot_laws = { PartialLaws.drops };
 
     fn answer(&self, page: Page) -> Option<Translation> {
         match self {
@@ -86,26 +87,14 @@ impl Slot for PartialSlot {
     }
 }
 
-impl Fill for PartialSlot {
-    ghost made = { IsSlot };
-
+impl Enter for PartialSlot {
     ghost room = { λ xs e p. BlockRoom xs e };
 
-    ghost says = { PartialLaws.says_entry };
+    ghost taken = { λ o e p t n. IsSomeAnd n (IsSlot e p t) };
 
-    ghost frees = { PartialLaws.frees };
+    ghost enter_laws = { PartialLaws.enters };
 
-    fn of_entry(entry: Entry, page: Page, translation: Translation) -> PartialSlot {
-        match entry.word {
-            Word::Compact(word) => PartialSlot::Subblock {
-                block: entry.page.block(),
-                word,
-            },
-            Word::Full(_) => PartialSlot::Single(PageSlot { page, translation }),
-        }
-    }
-
-    // The entry's pages are cleared in every slot of its block.
+    // The entry's pages are cleared in every slot of its block, and no place is found.
     fn make_room(slots: &mut [Option<PartialSlot>], entry: Entry, _: Page) -> Option<usize> {
         let block = entry.page.block();
         let offsets = entry.offsets();
@@ -115,5 +104,15 @@ impl Fill for PartialSlot {
             }
         }
         None
+    }
+
+    fn take_in(slot: &mut Option<PartialSlot>, entry: Entry, page: Page, translation: Translation) {
+        *slot = Some(match entry.word {
+            Word::Compact(word) => PartialSlot::Subblock {
+                block: entry.page.block(),
+                word,
+            },
+            Word::Full(_) => PartialSlot::Single(PageSlot { page, translation }),
+        });
     }
 }

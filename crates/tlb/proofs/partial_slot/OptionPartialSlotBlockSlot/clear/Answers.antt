@@ -1,5 +1,4 @@
 use Rattle.std.proofs.Common.{◌<◌, ◌^◌, arith, rules}
-use Rattle.words.specs.Layout.{offsets_in}
 use Rattle.tlb.specs.Clearing.{emptied, shrunk}
 use Rattle.tlb.proofs.partial_slot.OptionPartialSlotBlockSlot.clear.Goals as goal
 

@@ -2,8 +2,8 @@ use Rattle.std.proofs.Common.{rules}
 use Rattle.std.proofs.lemmas.List.{get_or_default}
 use Rattle.tlb.specs.Clearing.{row_slot_cleared, row_slot_kept}
 use Rattle.tlb.proofs.Upto.{written, left}
-use Rattle.tlb.proofs.partial_slot.PartialSlotFill.make_room.Goals as goal
-use Rattle.tlb.proofs.partial_slot.PartialSlotFill.make_room.Goals.{then-overlaps, else-overlaps}
+use Rattle.tlb.proofs.partial_slot.PartialSlotEnter.make_room.Goals as goal
+use Rattle.tlb.proofs.partial_slot.PartialSlotEnter.make_room.Goals.{then-overlaps, else-overlaps}
 
 pub loop-i-preserved : goal.loop-i-preserved
 loop-i-preserved c =
