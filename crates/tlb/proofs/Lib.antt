@@ -3,3 +3,4 @@ pub mod Upto
 pub mod Levels
 pub mod Found
 pub mod Loads
+pub mod Stores

@@ -1,12 +1,15 @@
 -- Slots in a row: what is left when slots lose pages, and what a new slot brings.
-use Rattle.std.proofs.Common.{◌≡◌, ℕ, zero, suc, ◌+◌, ◌<◌, ◌≤◌, ◌≢◌, eqb, ◌⊎◌, List, [], ◌∷◌, length, get_or, set, Some, None, Option, sym, refl, ap, ◌∙◌, subst, inl, inr, ⊎_elim, arith, MatchOption}
+use Rattle.std.proofs.Common.{◌≡◌, ℕ, true, zero, suc, ◌+◌, ◌<◌, ◌≤◌, ◌≢◌, eqb, ◌⊎◌, List, [], ◌∷◌, length, get_or, set, Some, None, Option, sym, refl, ap, ◌∙◌, subst, inl, inr, ⊎_elim, arith, MatchOption}
 use Rattle.std.proofs.lemmas.Bool.{cond-true, eq-eqb}
 use Rattle.words.specs.declared.translation.Translation.{Translation}
 use Rattle.tlb.specs.declared.entry.Entry.{Entry}
 use Rattle.tlb.specs.Meaning.{Takes}
 use Rattle.tlb.specs.Choices.{left, none_either}
 use Rattle.tlb.specs.RowLaws.{one}
-use Rattle.tlb.specs.Slots.{Holds, holders, in_slot, Becomes, Each, without_page, HeldOnce, Says, RoomFor}
+use Rattle.tlb.specs.Entries.{entry_says}
+use Rattle.tlb.specs.Slots.{Holding, Dropping, Keeping, MakesRoom, TakesIn, Holds, holders, in_slot, slot_at, next_slot, Becomes, Each, without_page, HeldOnce, SlotLaws, Says, RoomFor, EnterLaws}
+use Rattle.tlb.specs.Slotted.{Stored}
+use Rattle.tlb.specs.declared.hand.Hand.{Hand}
 
 -- what is said by cases, at a known case
 pub at_some : {X : Type 0} (o : Option X) (x : X) (A : Type 0) (B : X → Type 0) → Some x ≡ o → B x → MatchOption o A B
@@ -89,55 +92,82 @@ module _ {S : Type 0} (held : S → ℕ → Option Translation) where
     lost_gone t h = no_pair ys p t (none_holds ys p (λ k d l. lost.1 k d (omega (arith, lost.0)) p ∙ cond-true _ _ _ (eq-eqb p p refl))) h
 
 -- every slot lost the page as its kind of slot does
-pub lost_pages : {S : Type 0} (held : S → ℕ → Option Translation) (dropped : S → ℕ → Option S → Type 0) (drops : (s : S) (p : ℕ) (u : Option S) → dropped s p u → (q : ℕ) → in_slot held u q ≡ without_page (held s) p q)
-    (xs ys : List (Option S)) (p : ℕ) → Each (Becomes (λ s u. dropped s p u)) xs ys → Each (λ s u. (q : ℕ) → in_slot held u q ≡ without_page (in_slot held s) p q) xs ys
-lost_pages {S} held dropped drops xs ys p each = (each.0, λ k d l q. slot (get_or xs k d) (get_or ys k d) (each.1 k d l) q)
+pub lost_pages : {S : Type 0} (held : Holding S) (dropped : Dropping S) (kept : Keeping S) → SlotLaws held dropped kept
+    → (xs ys : List (Option S)) (p : ℕ) → Each (Becomes (λ s u. dropped s p u)) xs ys → Each (λ s u. (q : ℕ) → in_slot held u q ≡ without_page (in_slot held s) p q) xs ys
+lost_pages {S} held dropped kept laws xs ys p each = (each.0, λ k d l q. slot (get_or xs k d) (get_or ys k d) (each.1 k d l) q)
   where
     slot : (o u : Option S) → Becomes (λ s u. dropped s p u) o u → (q : ℕ) → in_slot held u q ≡ without_page (in_slot held o) p q
     slot None u e q = ap (λ x. in_slot held x q) e ∙ sym (none_either (eqb q p))
-    slot (Some s) u d q = drops s p u d q
+    slot (Some s) u d q = laws.pages s p u d q
 
--- where a slot may go for which room was made
-abbrev pub Goes : Option ℕ → ℕ → Type 0
+-- where the slot may go for which room was made
+abbrev Goes : Option ℕ → ℕ → Type 0
 Goes place i = MatchOption place (Unit {0}) (λ k. k ≡ i)
 
-pub goes_there : (place : Option ℕ) (i : ℕ) → place ≡ Some i → Goes place i
-goes_there place i e = rw e refl
+-- what the slot at a place holds, the row holds
+holds_at : {S : Type 0} (held : Holding S) (xs : List (Option S)) (place : Option ℕ) (q : ℕ) (t : Translation) → in_slot held (slot_at xs place) q ≡ Some t → Holds (in_slot held) xs q t
+holds_at held xs None q t e = let z : None ≡ Some t = e in cc
+holds_at held [] (Some k) q t e = let z : None ≡ Some t = e in cc
+holds_at held (x ∷ xs) (Some zero) q t e = inl e
+holds_at held (x ∷ xs) (Some (suc k)) q t e = inr (holds_at held xs (Some k) q t e)
 
-pub goes_anywhere : (place : Option ℕ) (i : ℕ) → place ≡ None → Goes place i
-goes_anywhere place i e = rw e tt
-
--- the slot n of an entry, for which room was made, comes to a place
-module _ {S : Type 0} (held : S → ℕ → Option Translation) (xs ys : List (Option S)) (n : S) (place : Option ℕ) (once : HeldOnce held xs) (room : RoomFor held xs n place ys) where
+-- the slot u, for which room was made, comes to a place
+module _ {S : Type 0} (held : Holding S) (kept : Keeping S) (xs ys : List (Option S)) (u : Option S) (place : Option ℕ) (once : HeldOnce held xs) (room : RoomFor held kept xs place ys u) where
   fewer : Lessens (in_slot held) xs ys
   fewer = record { long = room.long; each = room.within }
 
-  pub left_once : HeldOnce held ys
+  left_once : HeldOnce held ys
   left_once q = let a = lessens_holders (in_slot held) xs ys q fewer in let b = once q in omega arith
 
   module _ (i : ℕ) (goes : Goes place i) where
     elsewhere : (k : ℕ) → k ≢ i → place ≢ Some k
     elsewhere k ne e = ne (rw e at goes)
 
-    pub stored_once : HeldOnce held (set ys i (Some n))
-    stored_once q = each (held n q) refl
+    stored_once : HeldOnce held (set ys i u)
+    stored_once q = each (in_slot held u q) refl
       where
-        each : (o : Option Translation) → held n q ≡ o → holders (in_slot held) (set ys i (Some n)) q ≤ 1
-        each None e = let a = set_holders (in_slot held) ys i (Some n) q in let b = left_once q in let c = ap one e in omega arith
+        each : (o : Option Translation) → in_slot held u q ≡ o → holders (in_slot held) (set ys i u) q ≤ 1
+        each None e = let a = set_holders (in_slot held) ys i u q in let b = left_once q in let c = ap one e in omega arith
         each (Some t) e =
-            let a = alone (in_slot held) ys i (Some n) q (λ k d l ne. room.free k d q t (omega (arith, room.long)) (elsewhere k ne) e) in
+            let a = alone (in_slot held) ys i u q (λ k d l ne. room.free k d q t (omega (arith, room.long)) (elsewhere k ne) e) in
             let c = ap one e in
             omega arith
 
-    pub stored_takes : (e : Entry) (p : ℕ) (t : Translation) → Says held e p t n → i < length ys → Takes (Holds (in_slot held)) xs e p t (set ys i (Some n))
+    stored_takes : (e : Entry) (p : ℕ) (t : Translation) → Says held (slot_at ys place) e p t u → i < length ys → Takes (Holds (in_slot held)) xs e p t (set ys i u)
     stored_takes e p t says l =
-        let own = set_has (in_slot held) ys i (Some n) p t l says.own in
+        let own = set_has (in_slot held) ys i u p t l says.own in
         record {
           has = own;
-          only = λ x h. one_pair (in_slot held) (set ys i (Some n)) p x t (stored_once p) h own;
+          only = λ x h. one_pair (in_slot held) (set ys i u) p x t (stored_once p) h own;
           from = λ q x h.
               ⊎_elim
               (λ a. inl (lessens_pair (in_slot held) xs ys q x fewer a))
-              (λ a. inr (says.within q x a))
-              (set_pair (in_slot held) ys i (Some n) q x h);
+              (λ a. ⊎_elim
+              (λ b. inl (lessens_pair (in_slot held) xs ys q x fewer (holds_at held ys place q x b)))
+              (λ b. inr b)
+              (says.within q x a))
+              (set_pair (in_slot held) ys i u q x h);
         }
+
+-- an entry came into a row of slots
+pub record Comes {S : Type 0} (held : Holding S) (kept : Keeping S) (xs : List (Option S)) (e : Entry) (p : ℕ) (t : Translation) (ys : List (Option S)) : Type 0 where
+  pub once : HeldOnce held ys
+  pub keeps : kept ys ≡ true
+  pub takes : Takes (Holds (in_slot held)) xs e p t ys
+
+module _ {S : Type 0} (held : Holding S) (kept : Keeping S) (room : MakesRoom S) (taken : TakesIn S) (laws : EnterLaws held kept room taken)
+    (xs : List (Option S)) (h : Hand) (e : Entry) (p : ℕ) (t : Translation) (zs : List (Option S)) (g : Hand) (once : HeldOnce held xs) (keeps : kept xs ≡ true) (long : length xs ≡ 64) (says : entry_says e p ≡ Some t) where
+  pub comes : Stored room taken xs h e p t zs g → Comes held kept xs e p t zs
+  comes (place, ys, u, made, took, set_so) = at_place place (laws.frees xs e p t place ys u once keeps says made took) (laws.says (slot_at ys place) e p t u says took) set_so
+    where
+      goes_to : (place : Option ℕ) (i : ℕ) → Goes place i → i < 64 → RoomFor held kept xs place ys u → Says held (slot_at ys place) e p t u → zs ≡ set ys i u → Comes held kept xs e p t zs
+      goes_to place i goes l free said same = subst (Comes held kept xs e p t) (sym same) (record {
+        once = stored_once held kept xs ys u place once free i goes;
+        keeps = free.keeps i goes;
+        takes = stored_takes held kept xs ys u place once free i goes e p t said (omega (arith, free.long));
+      })
+
+      at_place : (place : Option ℕ) → RoomFor held kept xs place ys u → Says held (slot_at ys place) e p t u
+          → MatchOption place ((zs ≡ set ys h.at u) × (g.at ≡ next_slot h.at)) (λ k. (zs ≡ set ys k u) × (g ≡ h)) → Comes held kept xs e p t zs
+      at_place None free said (same, _) = goes_to None h.at tt h.within free said same
+      at_place (Some k) free said (same, _) = goes_to (Some k) k refl (let l = free.inside k refl in omega arith) free said same

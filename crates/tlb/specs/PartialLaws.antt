@@ -1,7 +1,7 @@
 -- Why no page has two of the slots for pages of one block: the slot of an entry says what the entry says, and these pages are cleared in
 -- every other slot.
-use Rattle.std.specs.Prelude.{◌≡◌, ℕ, true, cond, Some, None, Option, List, refl}
-use Rattle.std.proofs.Common.{eqb, sym, ap, ◌∙◌, ⊎_elim, arith}
+use Rattle.std.specs.Prelude.{◌≡◌, ℕ, true, cond, Some, None, IsSomeAnd, Option, List, refl}
+use Rattle.std.proofs.Common.{eqb, sym, ap, ◌∙◌, ⊎_elim, inr, arith}
 use Rattle.std.proofs.lemmas.Bool.{cases_Bool, eqb-true, eqb-false, eq-eqb, ne_eqb, and_from, cond-true, cond-false}
 use Rattle.std.specs.Result.{result_ok}
 use Rattle.words.specs.declared.translation.Translation.{Translation}
@@ -17,10 +17,10 @@ use Rattle.tlb.specs.declared.entry.Entry.{Entry}
 use Rattle.tlb.specs.declared.partial_slot.PartialSlot.{PartialSlot}
 use Rattle.tlb.specs.declared.partial_slot.PartialSlot.TheVariants.{Subblock, Single}
 use Rattle.tlb.specs.Entries.{reaches, entry_says, word_offsets, entry_offsets}
-use Rattle.tlb.specs.PartialSlots.{block_held, IsSlot, BlockRoom}
+use Rattle.tlb.specs.PartialSlots.{block_held, block_dropped, of_block, IsSlot, BlockRoom}
 use Rattle.tlb.specs.Choices.{kept, left}
-use Rattle.tlb.specs.Slots.{HeldOnce, Says, RoomFor}
-use Rattle.tlb.specs.Clearing.{names, one_page, slot_cleared}
+use Rattle.tlb.specs.Slots.{in_slot, SlotLaws, RoomFor, EnterLaws}
+use Rattle.tlb.specs.Clearing.{one_page, slot_cleared}
 
 -- what a word at the page p says of the page q, as an entry has it
 abbrev says : Word → ℕ → ℕ → Option Translation
@@ -34,7 +34,7 @@ says_said : (w : Word) (p q : ℕ) → says w p q ≡ cond (reaches (form_of w) 
 says_said w p q = ap (λ x. cond (reaches (form_of w) p q) x None) (ap result_ok (value_reading w (offset_of q) (omega arith)) ∙ ok_answer (said (form_of w) (bits_of w) (offset_of q)))
 
 -- what an entry says of a page is among the pages that it clears
-said_named : (w : Word) (p q : ℕ) (t : Translation) → says w p q ≡ Some t → names (block_of p) (word_offsets (form_of w) p (bits_of w)) q ≡ true
+said_named : (w : Word) (p q : ℕ) (t : Translation) → says w p q ≡ Some t → of_block (block_of p) (word_offsets (form_of w) p (bits_of w)) q ≡ true
 said_named (Compact c) p q t e =
     let (i, j) = kept (eqb (block_of q) (block_of p)) (said form.Compact c.bits (offset_of q)) t (sym (says_said (Compact c) p q) ∙ e) in
     and_from (eqb (block_of q) (block_of p)) (bit (offsets_in c.bits) (offset_of q)) i (kept (bit (offsets_in c.bits) (offset_of q)) _ t j).0
@@ -69,15 +69,30 @@ slot_says e p t (Subblock b w) (i, j) s q = compact_slot e.word e.page.number b.
 slot_says e p t (Single n) (f, (i, j)) s q =
     ap (λ x. cond (eqb q x) (Some n.translation) None) i ∙ ap (λ x. cond (eqb q p) (Some x) None) j ∙ full_slot e.word e.page.number p t f s q
 
-pub says_entry : (e : Entry) (p : ℕ) (t : Translation) (n : PartialSlot) → entry_says e p ≡ Some t → IsSlot e p t n → Says block_held e p t n
-says_entry e p t n s m = record { own = slot_says e p t n m s p ∙ s; within = λ q x h. sym (slot_says e p t n m s q) ∙ h }
+pub drops : SlotLaws block_held block_dropped (λ xs. true)
+drops = record { pages = λ s p u d. d.loses.pages; empty = λ n. refl; purged = λ xs ys p k each. refl }
 
-pub frees : (xs : List (Option PartialSlot)) (e : Entry) (p : ℕ) (t : Translation) (n : PartialSlot) (at : Option ℕ) (ys : List (Option PartialSlot)) → HeldOnce block_held xs → entry_says e p ≡ Some t → IsSlot e p t n → BlockRoom xs e at ys → RoomFor block_held xs n at ys
-frees xs e p t n at ys once s m (_, (long, each)) =
-    let b = block_of e.page.number in
-    let os = entry_offsets e in
+-- what the slot holds that took the entry in
+taken_says : (e : Entry) (p : ℕ) (t : Translation) (u : Option PartialSlot) → IsSomeAnd u (IsSlot e p t) → entry_says e p ≡ Some t → (q : ℕ) → in_slot block_held u q ≡ entry_says e q
+taken_says e p t (Some n) m s q = slot_says e p t n m s q
+taken_says e p t None m s q = absurd m
+
+frees : (xs : List (Option PartialSlot)) (e : Entry) (p : ℕ) (t : Translation) (place : Option ℕ) (ys : List (Option PartialSlot)) (u : Option PartialSlot) → entry_says e p ≡ Some t → BlockRoom xs e place ys → IsSomeAnd u (IsSlot e p t) → RoomFor block_held (λ zs. true) xs place ys u
+frees xs e p t place ys u s (none, (long, each)) m =
+    let named = of_block (block_of e.page.number) (entry_offsets e) in
     record {
       long = long;
-      within = λ k d q x l h. (left (names b os q) _ x (sym (slot_cleared b os _ _ (each k d l) q) ∙ h)).1;
-      free = λ k d q x l away h. slot_cleared b os _ _ (each k d l) q ∙ cond-true _ _ _ (said_named e.word e.page.number q x (sym (slot_says e p t n m s q) ∙ h));
+      inside = λ k e. let z : None ≡ Some k = sym none ∙ e in cc;
+      within = λ k d q x l h. (left (named q) _ x (sym (slot_cleared named _ _ (each k d l) q) ∙ h)).1;
+      free = λ k d q x l away h. slot_cleared named _ _ (each k d l) q ∙ cond-true _ _ _ (said_named e.word e.page.number q x (sym (taken_says e p t u m s q) ∙ h));
+      keeps = λ i goes. refl;
     }
+
+pub enters : EnterLaws block_held (λ xs. true) (λ xs e p. BlockRoom xs e) (λ o e p t u. IsSomeAnd u (IsSlot e p t))
+enters = record {
+  says = λ o e p t u s m. record {
+    own = taken_says e p t u m s p ∙ s;
+    within = λ q x h. inr (sym (taken_says e p t u m s q) ∙ h);
+  };
+  frees = λ xs e p t place ys u once k s. frees xs e p t place ys u s;
+}

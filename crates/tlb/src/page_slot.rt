@@ -1,10 +1,10 @@
 // A slot for one page.
-ghost use Rattle.std.proofs.Common.{rules};
+ghost use Rattle.std.specs.Prelude.{true, IsSomeAnd};
 ghost use Rattle.tlb.specs.PageSlots.{page_held, page_dropped, IsHeld, PageRoom};
 ghost use Rattle.tlb.specs.PageLaws;
 
+use crate::enter::Enter;
 use crate::entry::Entry;
-use crate::fill::Fill;
 use crate::search::place;
 use crate::slot::Slot;
 use words::{Page, Translation};
@@ -20,7 +20,9 @@ impl Slot for PageSlot {
 
     ghost dropped = { page_dropped };
 
-    ghost drops = { Prim.search rules };
+    ghost kept = { λ xs. true };
+
+    ghost slot_laws = { PageLaws.drops };
 
     fn answer(&self, page: Page) -> Option<Translation> {
         (self.page == page).then_some(self.translation)
@@ -33,21 +35,19 @@ impl Slot for PageSlot {
     }
 }
 
-impl Fill for PageSlot {
-    ghost made = { λ e p t. IsHeld p t };
-
+impl Enter for PageSlot {
     ghost room = { λ xs e. PageRoom xs };
 
-    ghost says = { PageLaws.says_entry };
+    ghost taken = { λ o e p t n. IsSomeAnd n (IsHeld p t) };
 
-    ghost frees = { PageLaws.frees };
+    ghost enter_laws = { PageLaws.enters };
 
-    fn of_entry(_: Entry, page: Page, translation: Translation) -> PageSlot {
-        PageSlot { page, translation }
-    }
-
-    // A slot that holds the page is overwritten.
+    // The slot that holds the page.
     fn make_room(slots: &mut [Option<PageSlot>], _: Entry, page: Page) -> Option<usize> {
         place(slots, page)
+    }
+
+    fn take_in(slot: &mut Option<PageSlot>, _: Entry, page: Page, translation: Translation) {
+        *slot = Some(PageSlot { page, translation });
     }
 }

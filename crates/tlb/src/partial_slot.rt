@@ -1,12 +1,11 @@
 // A slot for pages of one block.
-ghost use Rattle.std.specs.Prelude.{◌≡◌};
-ghost use Rattle.tlb.specs.PartialSlots.{block_held, block_dropped, overlaps, Loses, Cleared, IsSlot, BlockRoom};
+ghost use Rattle.std.specs.Prelude.{true, IsSomeAnd, MatchBool};
+ghost use Rattle.tlb.specs.PartialSlots.{block_held, block_dropped, at_offsets, of_block, HoldsSome, Loses, IsSlot, BlockRoom};
 ghost use Rattle.tlb.specs.Slots.{Becomes};
-ghost use Rattle.tlb.specs.Clearing;
 ghost use Rattle.tlb.specs.PartialLaws;
 
+use crate::enter::Enter;
 use crate::entry::Entry;
-use crate::fill::Fill;
 use crate::page_slot::PageSlot;
 use crate::slot::Slot;
 use words::{Block, CompactWord, OffsetSet, Page, Translation, Word};
@@ -19,42 +18,45 @@ pub enum PartialSlot {
     Single(PageSlot),
 }
 
-impl PartialSlot {
-    // Whether the slot is of the block and holds a page at one of the offsets.
-    fn overlaps(&self, block: Block, offsets: OffsetSet) -> bool
-        ensures { result ≡ overlaps block.number offsets.bits self.now }
-    {
-        match self {
-            PartialSlot::Subblock { block: own, word } => *own == block
-                && word.offsets().meets(offsets),
-            PartialSlot::Single(slot) => slot.page.block() == block
-                && offsets.has(slot.page.offset()),
-        }
-    }
+// A slot of the row, which may be empty.
+trait BlockSlot {
+    // Whether the slot holds a page of the block at one of the offsets.
+    fn overlaps(&self, block: Block, offsets: OffsetSet) -> bool;
 
-    // The slot without the offsets; none where no page is left.
-    fn without_all(self, offsets: OffsetSet) -> Option<PartialSlot>
-        ensures { Loses offsets.bits self result }
-    {
-        match self {
-            PartialSlot::Subblock { block, word } => {
-                let word = word.without_all(offsets)?;
-                Some(PartialSlot::Subblock { block, word })
-            }
-            PartialSlot::Single(slot) if offsets.has(slot.page.offset()) => None,
-            PartialSlot::Single(_) => Some(self),
-        }
-    }
+    // Clears the offsets in their place; a slot without offsets becomes empty.
+    fn clear(&mut self, offsets: OffsetSet);
 }
 
-// Clears the block's pages at the offsets; a struct of the two would be made only to be taken apart at each slot.
-fn clear(slot: &mut Option<PartialSlot>, block: Block, offsets: OffsetSet)
-    ensures { Becomes (Cleared block.number offsets.bits) slot.old slot.new }
-{
-    if let Some(held) = slot.as_ref()
-        && held.overlaps(block, offsets)
+impl BlockSlot for Option<PartialSlot> {
+    #[tactic(auto, using(crate::specs::Clearing::meeting_slot))]
+    fn overlaps(&self, block: Block, offsets: OffsetSet) -> bool
+        ensures { MatchBool result (HoldsSome (of_block block.number offsets.bits) self.now) (HoldsSome (of_block block.number offsets.bits) self.now → ⊥) }
     {
-        *slot = held.without_all(offsets);
+        match self {
+            Some(PartialSlot::Subblock { block: own, word }) => *own == block
+                && word.offsets().meets(offsets),
+            Some(PartialSlot::Single(slot)) => slot.page.block() == block
+                && offsets.has(slot.page.offset()),
+            None => false,
+        }
+    }
+
+    #[tactic(auto, using(crate::specs::Clearing::single_gone, crate::specs::Clearing::single_stays))]
+    fn clear(&mut self, offsets: OffsetSet)
+        ensures { Becomes (Loses (at_offsets offsets.bits)) self.old self.new }
+    {
+        match self {
+            Some(PartialSlot::Subblock { word, .. }) => match word.without_all(offsets) {
+                Some(left) => *word = left,
+                None => *self = None,
+            },
+            Some(PartialSlot::Single(slot)) => {
+                if offsets.has(slot.page.offset()) {
+                    *self = None;
+                }
+            }
+            None => {}
+        }
     }
 }
 
@@ -63,7 +65,9 @@ impl Slot for PartialSlot {
 
     ghost dropped = { block_dropped };
 
-    ghost drops = { Clearing.drops };
+    ghost kept = { λ xs. true };
+
+    ghost slot_laws = { PartialLaws.drops };
 
     fn answer(&self, page: Page) -> Option<Translation> {
         match self {
@@ -76,36 +80,39 @@ impl Slot for PartialSlot {
     }
 
     fn drop_page(slot: &mut Option<PartialSlot>, page: Page) {
-        clear(slot, page.block(), OffsetSet::from(page.offset()));
+        let offsets = OffsetSet::from(page.offset());
+        if slot.overlaps(page.block(), offsets) {
+            slot.clear(offsets);
+        }
     }
 }
 
-impl Fill for PartialSlot {
-    ghost made = { IsSlot };
-
+impl Enter for PartialSlot {
     ghost room = { λ xs e p. BlockRoom xs e };
 
-    ghost says = { PartialLaws.says_entry };
+    ghost taken = { λ o e p t n. IsSomeAnd n (IsSlot e p t) };
 
-    ghost frees = { PartialLaws.frees };
+    ghost enter_laws = { PartialLaws.enters };
 
-    fn of_entry(entry: Entry, page: Page, translation: Translation) -> PartialSlot {
-        match entry.word {
+    // The entry's pages are cleared in every slot of its block, and no place is found.
+    fn make_room(slots: &mut [Option<PartialSlot>], entry: Entry, _: Page) -> Option<usize> {
+        let block = entry.page.block();
+        let offsets = entry.offsets();
+        for i in 0..slots.len() {
+            if slots[i].overlaps(block, offsets) {
+                slots[i].clear(offsets);
+            }
+        }
+        None
+    }
+
+    fn take_in(slot: &mut Option<PartialSlot>, entry: Entry, page: Page, translation: Translation) {
+        *slot = Some(match entry.word {
             Word::Compact(word) => PartialSlot::Subblock {
                 block: entry.page.block(),
                 word,
             },
             Word::Full(_) => PartialSlot::Single(PageSlot { page, translation }),
-        }
-    }
-
-    // The entry's pages are cleared in every slot of its block.
-    fn make_room(slots: &mut [Option<PartialSlot>], entry: Entry, _: Page) -> Option<usize> {
-        let block = entry.page.block();
-        let offsets = entry.offsets();
-        for slot in slots.iter_mut() {
-            clear(slot, block, offsets);
-        }
-        None
+        });
     }
 }

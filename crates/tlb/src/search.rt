@@ -1,8 +1,9 @@
-// Probing and purging, over lent slots of any kind.
-ghost use Rattle.std.specs.Prelude.{◌≡◌, ℕ, ◌<◌, ◌≤◌, length, IfSome};
+// Probing, purging and the hand, over lent slots of any kind.
+ghost use Rattle.std.specs.Prelude.{◌≡◌, ℕ, ◌<◌, ◌≤◌, None, length, slice_set, IfSome};
 ghost use Rattle.tlb.specs.Meaning.{Lacks, Within, Answers};
-ghost use Rattle.tlb.specs.Slots.{in_slot, Holds, holders, first_place, first_held, without_page, Each, Becomes};
+ghost use Rattle.tlb.specs.Slots.{in_slot, Holds, holders, first_place, first_held, without_page, next_slot, Each, Becomes};
 
+use crate::hand::Hand;
 use crate::slot::Slot;
 use words::{Page, Translation};
 
@@ -40,4 +41,16 @@ pub fn purge<S: Slot>(slots: &mut [Option<S>], page: Page)
     for slot in slots.iter_mut() {
         S::drop_page(slot, page);
     }
+}
+
+// Empties the slot at the hand, and moves the hand on; the place of that slot.
+pub fn vacate<S: Slot>(slots: &mut [Option<S>; 64], hand: &mut Hand) -> usize
+    ensures place { result ≡ hand.old.at }
+    ensures emptied { slots.new ≡ slice_set slots.old result None }
+    ensures moved { hand.new.at ≡ next_slot hand.old.at }
+{
+    let at = hand.at;
+    slots[at] = None;
+    hand.advance();
+    at
 }

@@ -1,16 +1,18 @@
 // What a filled slot of a TLB holds, whatever it is for.
-ghost use Rattle.std.specs.Prelude.{◌≡◌, ℕ, Option as Maybe};
-ghost use Rattle.tlb.specs.Slots.{Becomes, in_slot, without_page};
-ghost use Rattle.words.specs.declared.translation.Translation.{Translation as Pair};
+ghost use Rattle.std.specs.Prelude.{◌≡◌};
+ghost use Rattle.tlb.specs.Slots.{Holding, Dropping, Keeping, Becomes, SlotLaws};
 
 use words::{Page, Translation};
 
 pub trait Slot: Copy {
     // What the slot holds for each page.
-    ghost held: { Self → ℕ → Maybe Pair };
+    ghost held: { Holding Self };
 
     // What becomes of the slot when a page is dropped: it may be empty then.
-    ghost dropped: { Self → ℕ → Maybe Self → Type 0 };
+    ghost dropped: { Dropping Self };
+
+    // What is true of every row of such slots, besides that no page is held twice.
+    ghost kept: { Keeping Self };
 
     fn answer(&self, page: Page) -> Option<Translation>
         ensures { result ≡ held self.now page.number };
@@ -18,6 +20,5 @@ pub trait Slot: Copy {
     fn drop_page(slot: &mut Option<Self>, page: Page)
         ensures { Becomes (λ s u. dropped s page.number u) slot.old slot.new };
 
-    // Only that page is gone.
-    ghost drops: { (s : Self) (p : ℕ) (u : Maybe Self) → dropped s p u → (q : ℕ) → in_slot held u q ≡ without_page (held s) p q };
+    ghost slot_laws: { SlotLaws held dropped kept };
 }

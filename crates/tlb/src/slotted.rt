@@ -3,18 +3,19 @@ ghost use Rattle.std.specs.Prelude.{ℕ};
 ghost use Rattle.tlb.specs.Meaning.{Agree, Lacks};
 ghost use Rattle.tlb.specs.Slotted.{slotted, AllEmpty};
 
+use crate::enter::Enter;
 use crate::entry::Entry;
-use crate::fill::Fill;
 use crate::hand::Hand;
 use crate::search::{find, purge};
 use crate::slot_tlb::SlotTlb;
+use crate::store::store;
 use crate::tlb::Tlb;
 use words::{Page, Translation};
 
-impl<S: Fill> SlotTlb<S> {
+impl<S: Enter> SlotTlb<S> {
     pub fn new() -> SlotTlb<S>
         ensures empty { AllEmpty result }
-        ensures gone { (q : ℕ) → Lacks (slotted S.Slot S.Fill.own).pairs result q }
+        ensures gone { (q : ℕ) → Lacks (slotted S.Slot S.Enter.own).pairs result q }
     {
         SlotTlb {
             slots: [None; 64],
@@ -24,28 +25,20 @@ impl<S: Fill> SlotTlb<S> {
 
     // No page has two translations, whatever was loaded and purged.
     pub fn agrees(&self)
-        ensures { Agree (slotted S.Slot S.Fill.own).pairs self.now }
+        ensures { Agree (slotted S.Slot S.Enter.own).pairs self.now }
     {}
 }
 
-impl<S: Fill> Tlb for SlotTlb<S> {
-    ghost meaning = { slotted S.Slot S.Fill.own };
+impl<S: Enter> Tlb for SlotTlb<S> {
+    ghost meaning = { slotted S.Slot S.Enter.own };
 
     fn probe(&mut self, page: Page) -> Option<Translation> {
         find(&self.slots, page)
     }
 
     fn load(&mut self, entry: Entry, page: Page) {
-        let Some(translation) = entry.translation(page) else {
-            return;
-        };
-        let slot = S::of_entry(entry, page, translation);
-        match S::make_room(&mut self.slots, entry, page) {
-            Some(at) => self.slots[at] = Some(slot),
-            None => {
-                self.slots[self.hand.at] = Some(slot);
-                self.hand.advance();
-            }
+        if let Some(translation) = entry.translation(page) {
+            store(&mut self.slots, &mut self.hand, entry, page, translation);
         }
     }
 

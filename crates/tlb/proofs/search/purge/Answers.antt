@@ -10,7 +10,7 @@ returns g c =
     let ys = c.loop-slot.slots in
     let p = c.args.page.number in
     let exact : Each (Becomes (λ s u. g.S.Slot.dropped s p u)) xs ys = (c.loop-slot.invariant.long, λ k d l. c.loop-slot.invariant.below k d (omega arith)) in
-    let pages = lost_pages g.S.Slot.held g.S.Slot.dropped g.met.S.Slot.drops xs ys p exact in
+    let pages = lost_pages g.S.Slot.held g.S.Slot.dropped g.S.Slot.kept g.met.S.Slot.slot_laws xs ys p exact in
     let fewer = lost_lessens held xs ys p pages in
     record {
       exact = exact;
