@@ -1,6 +1,6 @@
 -- What the free list means.
 use Rattle.std.specs.Prelude.{◌≡◌, ℕ, ◌+◌, ◌-◌, ◌*◌, Bool, false, ◌&&◌, List, [], ◌∷◌, map, reverse, MatchResult, slice_index_or}
-use Rattle.words.specs.Refusals.{First}
+use Rattle.words.specs.Refusals.{First, Accepted}
 use Rattle.frames.specs.declared.free_list.FreeListAllocator.{FreeListAllocator}
 use Rattle.frames.specs.Faults.{allocate_number, free_number}
 use Rattle.frames.specs.Lists.{rising}
@@ -32,6 +32,6 @@ free_list = record {
       (λ f. free_frames s ≡ f ∷ free_frames u)
       (λ e. First ((free_frames s ≡ [], 4) ∷ []) (allocate_number e) × (u ≡ s));
   freed = λ s f r u. MatchResult r
-      (λ _. free_frames u ≡ f ∷ free_frames s)
+      (λ _. Accepted (free_refusals list_out s f) × (free_frames u ≡ f ∷ free_frames s))
       (λ e. First (free_refusals list_out s f) (free_number e) × (u ≡ s));
 }

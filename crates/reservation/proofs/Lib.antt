@@ -5,6 +5,7 @@ pub mod Indexed
 pub mod Usages
 pub mod Grouped
 pub mod Stored
-pub mod Laws
+pub mod Offsets
+pub mod OneState
 pub mod Members
 pub mod Written

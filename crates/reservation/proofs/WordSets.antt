@@ -12,7 +12,7 @@ use Rattle.words.specs.Points.{at}
 use Rattle.words.proofs.Flip.{no_bit, one_bit, complement_bit, cleared_bit, joined_bit}
 use Rattle.reservation.specs.Sets.{in_words, FirstFrom}
 
-half_bit : (w j : ℕ) → bit w (suc j) ≡ bit (w / 2) j
+pub half_bit : (w j : ℕ) → bit w (suc j) ≡ bit (w / 2) j
 half_bit w j = ap (λ x. eqb (x % 2) 1) (ap (λ k. w / 2 ^ k) (omega arith) ∙ sym (shr-shr w 1 j))
 
 -- the lowest set bit of a number below a power of two

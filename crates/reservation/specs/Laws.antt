@@ -1,13 +1,14 @@
 -- What the steps come to: frames at their pages' offsets.
-use Rattle.std.specs.Prelude.{◌≡◌, ℕ, ◌%◌, Bool, true, false, Ok, Result}
+use Rattle.std.specs.Prelude.{◌≡◌, ℕ, ◌%◌, Bool, true, false, Ok, Err, Result}
 use Rattle.words.specs.Layout.{block_of, offset_of}
 use Rattle.frames.specs.declared.fault.AllocateFault.{AllocateFault}
+use Rattle.frames.specs.declared.fault.FreeFault.{FreeFault}
 use Rattle.reservation.specs.declared.group.Choice.{Choice}
 use Rattle.reservation.specs.declared.group.Step.{Step}
 use Rattle.reservation.specs.declared.group.Step.TheVariants.{Kept, Reserves, Spare, Breaks, BreaksOldest}
 use Rattle.reservation.specs.declared.reservation.ReservationAllocator.{ReservationAllocator}
 use Rattle.reservation.specs.Groups.{is_open, block_use}
-use Rattle.reservation.specs.Reservation.{reservation, group_of, group_at, NoGroup, Chosen, Taken}
+use Rattle.reservation.specs.Reservation.{reservation, group_of, group_at, older, NoGroup, Chosen, Taken}
 
 -- the first two steps
 abbrev pub own_group : Step → Bool
@@ -26,18 +27,39 @@ last_step BreaksOldest = true
 
 -- a frame of the first two steps has its page's offset
 abbrev pub KeptAtOffset : Type 0
-KeptAtOffset = (s u : ReservationAllocator) (p f : ℕ) (c : Choice) → Chosen s p c → Taken s p c f u → own_group c.step ≡ true → f % 16 ≡ offset_of p
+KeptAtOffset = (s u : ReservationAllocator) (p f : ℕ) (c : Choice) → Chosen s p c → Taken s p c f u
+    → own_group c.step ≡ true → f % 16 ≡ offset_of p
 
 -- while a group is open, a page whose block has no group gets a frame, at its offset, of a group that is then reserved for its block
 abbrev pub OpenGroupGivesOffset : Type 0
-OpenGroupGivesOffset = (s u : ReservationAllocator) (p g : ℕ) (r : Result ℕ AllocateFault) → is_open (group_of s g) ≡ true → NoGroup s (block_of p) → reservation.allocated s p r u →
-    (f : ℕ) × (r ≡ Ok f) × (f % 16 ≡ offset_of p) × (block_use (block_of p) (group_of u (group_at s f)).usage ≡ true)
+OpenGroupGivesOffset = (s u : ReservationAllocator) (p g : ℕ) (r : Result ℕ AllocateFault)
+    → is_open (group_of s g) ≡ true → NoGroup s (block_of p) → reservation.allocated s p r u
+    → (f : ℕ) × (r ≡ Ok f) × (f % 16 ≡ offset_of p) × (block_use (block_of p) (group_of u (group_at s f)).usage ≡ true)
 
--- the rules leave open only what is free: two choices for a page go by one step, in the first two they are one frame, and in the last one group
+-- one frame
+pub record SameSpot (c d : Choice) : Type 0 where
+  pub group : c.spot.group ≡ d.spot.group
+  pub offset : c.spot.offset.number ≡ d.spot.offset.number
+
+-- two choices for a page go by one step; in the first two steps they are one frame, and in the last one group
 pub record Agree (c d : Choice) : Type 0 where
   pub step : c.step ≡ d.step
-  pub frame : own_group c.step ≡ true → (c.spot.group ≡ d.spot.group) × (c.spot.offset.number ≡ d.spot.offset.number)
+  pub spot : own_group c.step ≡ true → SameSpot c d
   pub oldest : last_step c.step ≡ true → c.spot.group ≡ d.spot.group
 
-abbrev pub Determined : Type 0
-Determined = (s : ReservationAllocator) (p : ℕ) (c d : Choice) → Chosen s p c → Chosen s p d → Agree c d
+-- one stock, the same groups, and one order of reservation
+pub record SameState (u v : ReservationAllocator) : Type 0 where
+  pub stock : u.stock ≡ v.stock
+  pub groups : group_of u ≡ group_of v
+  pub order : older u ≡ older v
+
+-- From one state a call has one answer and leaves one state, but for what the rules leave free: which frame in the last three steps, and of
+-- which group in Spare and Breaks.
+pub record Determined : Type 0 where
+  pub choices : (s : ReservationAllocator) (p : ℕ) (c d : Choice) → Chosen s p c → Chosen s p d → Agree c d
+  pub taken : (s u v : ReservationAllocator) (p f g : ℕ) (c d : Choice) → Chosen s p c → Chosen s p d → SameSpot c d
+      → Taken s p c f u → Taken s p d g v → (f ≡ g) × SameState u v
+  pub refused : (s u v : ReservationAllocator) (p : ℕ) (e : AllocateFault) (r : Result ℕ AllocateFault)
+      → reservation.allocated s p (Err e) u → reservation.allocated s p r v → (r ≡ Err e) × SameState u v
+  pub freed : (s u v : ReservationAllocator) (f : ℕ) (r q : Result (Unit {0}) FreeFault)
+      → reservation.freed s f r u → reservation.freed s f q v → (r ≡ q) × SameState u v

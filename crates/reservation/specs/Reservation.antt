@@ -1,7 +1,7 @@
 -- What the reservation allocator means, by its groups and the order in which they were reserved.
 use Rattle.std.specs.Prelude.{◌≡◌, ℕ, ◌+◌, ◌-◌, ◌*◌, ◌/◌, ◌%◌, ◌<◌, Bool, true, false, ◌&&◌, [], ◌∷◌, MatchBool, MatchResult, ◌≢◌, nat_lt}
 use Rattle.words.specs.Layout.{bit, block_of, offset_of}
-use Rattle.words.specs.Refusals.{First}
+use Rattle.words.specs.Refusals.{First, Accepted}
 use Rattle.frames.specs.Faults.{allocate_number, free_number}
 use Rattle.frames.specs.Meaning.{FramesMeaning, free_refusals}
 use Rattle.frames.specs.Stock.{first_frame, in_stock}
@@ -129,7 +129,7 @@ reservation = record {
       (λ f. (c : Choice) × Chosen s p c × Taken s p c f u)
       (λ e. First ((NoneIn s, 4) ∷ []) (allocate_number e) × (u ≡ s));
   freed = λ s f r u. MatchResult r
-      (λ _. CameIn s (group_at s f) (offset_at s f) u)
+      (λ _. Accepted (free_refusals group_out s f) × CameIn s (group_at s f) (offset_at s f) u)
       (λ e. First (free_refusals group_out s f) (free_number e) × (u ≡ s));
 }
 

@@ -10,11 +10,13 @@ mod block_index_calls;
 mod choosing;
 mod group;
 mod group_calls;
+mod laws;
 mod reservation;
 mod reservation_allocator;
 mod spot;
 mod storing;
 
 pub use group::{Choice, Group, Step, Usage};
+pub use laws::{determined, kept_at_offset, open_group_gives_offset};
 pub use reservation::ReservationAllocator;
 pub use spot::Spot;

@@ -1,6 +1,5 @@
 // Page reservation as a frame allocator.
 ghost use Rattle.reservation.specs.Reservation.{reservation, NewReservation};
-ghost use Rattle.reservation.specs.Laws.{KeptAtOffset, OpenGroupGivesOffset, Determined};
 ghost use Rattle.std.proofs.Common.{rules};
 
 use crate::age_order::AgeOrder;
@@ -30,14 +29,6 @@ impl ReservationAllocator {
             order: AgeOrder::empty(),
         }
     }
-
-    // A frame of the page's own group has the page's offset; while a group is open, a page whose block has none gets one; and the
-    // rules leave open only what is free.
-    pub fn places(&self)
-        ensures kept { KeptAtOffset }
-        ensures vacant { OpenGroupGivesOffset }
-        ensures determined { Determined }
-    {}
 }
 
 impl FrameAllocator for ReservationAllocator {

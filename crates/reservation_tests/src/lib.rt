@@ -65,6 +65,42 @@ mod tests {
     }
 
     #[test]
+    fn the_oldest_group_is_passed_over_while_it_has_nothing_in(rt: HostRuntime) {
+        let mut frames = ReservationAllocator::new(0);
+        for number in 0..256u16 {
+            assert_eq!(rt; frames.allocate(block(number)), Ok(u32::from(number) * 16));
+        }
+        for number in 1..16u32 {
+            assert_eq!(rt; frames.allocate(page(number)), Ok(number));
+        }
+        for _ in 0..15u8 {
+            let frame = frames.allocate(block(300)).unwrap_or(9999);
+            assert!(rt; 16 < frame && frame < 32, "the next one");
+        }
+        assert_eq!(rt; frames.free(3), Ok(()));
+        assert_eq!(rt; frames.allocate(block(300)), Ok(3), "the oldest again");
+    }
+
+    #[test]
+    fn a_block_whose_group_broke_reserves_another(rt: HostRuntime) {
+        let mut frames = ReservationAllocator::new(0);
+        for number in 0..256u16 {
+            assert_eq!(rt; frames.allocate(block(number)), Ok(u32::from(number) * 16));
+        }
+        let frame = frames.allocate(block(300)).unwrap_or(9999);
+        assert!(rt; 0 < frame && frame < 16, "of the group of block 0");
+        assert_eq!(rt; frames.free(80), Ok(()));
+        assert_eq!(rt; frames.allocate(page(3)), Ok(83), "the group that opened");
+        assert_eq!(rt;
+            frames.allocate(page(4)),
+            Ok(84),
+            "is now reserved for block 0"
+        );
+        let frame = frames.allocate(page(85)).unwrap_or(9999);
+        assert!(rt; 0 < frame && frame < 16, "block 5 has none");
+    }
+
+    #[test]
     fn a_group_that_opens_forgets_its_block_and_its_age(rt: HostRuntime) {
         let mut frames = ReservationAllocator::new(0);
         for number in 0..256u16 {
