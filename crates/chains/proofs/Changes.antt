@@ -13,7 +13,7 @@ use Rattle.chains.specs.declared.node.Body.{Body}
 use Rattle.chains.specs.declared.node.Content.TheVariants.{Free}
 use Rattle.chains.specs.Contents.{Node, body_in, owner_in}
 use Rattle.chains.specs.declared.node.Way.{Way}
-use Rattle.chains.specs.Chains.{nodes_of, node_of, body_of, block_of_node, order, Leads}
+use Rattle.chains.specs.Chains.{nodes_of, node_of, body_of, block_of_node, order, Leads, Nodes}
 use Rattle.chains.specs.Counting.{how_many}
 use Rattle.chains.specs.Links.{on, cut}
 use Rattle.chains.specs.Orders.{in_front, cut_out}
@@ -21,7 +21,7 @@ use Rattle.chains.specs.Blocks.{block_number}
 use Rattle.chains.specs.Nodes.{link_number, link_at, owner, is_linked, block_at, home_of, home_at, chain_from, node_for, is_held, Sound, Single, Kept, Holds, NoTwice, NoneLost}
 use Rattle.chains.proofs.Counts.{one, many_at, many_all, many_less}
 use Rattle.chains.proofs.Cut.{on_not_off}
-use Rattle.chains.proofs.Held.{chain, owned, unowned, node_on, home_of_flag, has_body, owner_of, at_same, next_in, no_node, home_in, block_in, home_most, no_flag_of_home, node_of_block, block_of_linked, at_map, link_set, owner_set, nth_at}
+use Rattle.chains.proofs.Held.{chain, count_all, owned, unowned, node_on, home_of_flag, has_body, owner_of, at_same, next_in, no_node, home_in, block_in, home_most, no_flag_of_home, node_of_block, block_of_linked, at_map, link_set, owner_set, nth_at}
 use Rattle.chains.proofs.Linking.{at_here, at_there, chain_b₀, chain_other, chain_b, chain_k, push_next, push_home, push_block, push_sound, push_single, push_kept, push_here, push_others, cut_next, cut_home, cut_block, cut_sound, cut_single, cut_kept, cut_others, cut_gone}
 use Rattle.chains.proofs.Orders.{order_in, bucket_order, none_past, map_framed, cut_blocks}
 use Rattle.chains.proofs.Steps.{step, over}
@@ -124,6 +124,16 @@ all_linked c none = let g : 256 ≤ next_in c 320 = (let e = ap link_number none
     (λ f. absurd (on_not_off i [] (subst (λ k. on i k ≡ true) (over (next_in c) (home_in c) 64 (next_in c 320) (c.sound 64 (omega arith)) g)
     (subst (λ k. on i (chain_from (next_in c) k) ≡ true) (cond-false (is_linked (nodes_of c) i) (bucket_of (block_in c i)) 64 f) (c.kept i l))) tt))
     (cases_Bool (is_linked (nodes_of c) i)))
+
+-- a node is free, so not every node is linked
+pub some_free : (c : Chains) (i : ℕ) → get_or c.links 320 None ≡ Some i → i < 256 → Nodes c 256 → ⊥
+some_free c i e l n =
+    let f = ap link_number e in
+    let free = no_flag_of_home c (next_in c 320) (step (next_in c) (home_in c) 64 (next_in c 320) (c.sound 64 (omega arith)) (omega arith)).4 in
+    let m = many_less (is_linked (nodes_of c)) (next_in c 320) 256 (omega arith) free in
+    let k = c.counted in
+    let a = count_all c in
+    omega arith
 
 -- the first free node is linked for the block; i and j are its number
 module _ (c : Chains) (block : Block) (n : Node) (y : Body) (h i j : ℕ) (of_block : n.block ≡ block) (has : body_in n ≡ Some y) (bucket : h ≡ bucket_of block.number) (same : i ≡ j) (absent : body_of c block.number ≡ None)

@@ -8,7 +8,7 @@ use Rattle.std.specs.List.{slice_get}
 use Rattle.words.specs.Layout.{bucket_of}
 use Rattle.words.specs.Points.{at}
 use Rattle.chains.specs.declared.chains.Chains.{Chains}
-use Rattle.chains.specs.Chains.{nodes_of, node_of, body_of, block_of_node}
+use Rattle.chains.specs.Chains.{nodes_of, node_of, body_of, block_of_node, Finds}
 use Rattle.chains.specs.Links.{walk, node_with, no_twice, on}
 use Rattle.std.specs.Option.{option_map}
 use Rattle.words.specs.declared.address.Block.{Block}
@@ -16,6 +16,7 @@ use Rattle.chains.specs.Contents.{Node, body_in, owner_in}
 use Rattle.chains.specs.Counting.{how_many}
 use Rattle.chains.specs.Blocks.{block_number}
 use Rattle.chains.specs.declared.node.Body.{Body}
+use Rattle.chains.specs.declared.node.Found.{Found}
 use Rattle.chains.specs.Nodes.{link_number, link_at, owner, is_linked, block_at, home_at, chain_from}
 use Rattle.chains.proofs.Linking.{at_here, at_there, at_home}
 use Rattle.chains.proofs.Steps.{Going, step, falls, passed, here, nowhere}
@@ -286,3 +287,7 @@ linked_small c i b e = ⊎_elim
 -- the counter says how many blocks have a node
 pub count_all : (c : Chains) → c.count ≡ how_many (λ b. is_some (body_of c b)) (2 ^ 48)
 count_all c = c.held ∙ ap (λ f. how_many f (2 ^ 48)) (fun_ext (λ b. sym (held_some c b)))
+
+-- a block whose node was found has a body
+pub found_held : (c : Chains) (b : ℕ) (f : Found) → Finds c b f → f.node < 256 → body_of c b ≡ None → ⊥
+found_held c b f e l n = let d = e.node in let m = no_node c b n in omega arith

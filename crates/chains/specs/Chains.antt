@@ -1,5 +1,5 @@
 -- What is held of each block.
-use Rattle.std.specs.Prelude.{◌≡◌, ℕ, ◌^◌, ◌≤◌, ◌&&◌, ◌==◌, List, is_some, Some, None, Option, MatchOption, option_and_then, slice_index_or}
+use Rattle.std.specs.Prelude.{◌≡◌, ℕ, ◌^◌, ◌≤◌, ◌&&◌, ◌==◌, List, [], ◌∷◌, is_some, Some, None, Option, MatchOption, option_and_then, slice_index_or}
 use Rattle.std.specs.Option.{option_map}
 use Rattle.std.specs.List.{slice_get, filter_map}
 use Rattle.words.specs.Layout.{bucket_of}
@@ -70,3 +70,7 @@ Writes c i y d = MatchOption (block_of_node c i) (body_of d ≡ body_of c) (λ b
 -- how many nodes are linked: exactly as many as there are blocks with one
 abbrev pub Nodes : Chains → ℕ → Type 0
 Nodes c n = n ≡ how_many (λ b. is_some (body_of c b)) (2 ^ 48)
+
+-- what an insertion of the block b refuses
+abbrev pub insert_refusals : Chains → ℕ → List (Type 0 × ℕ)
+insert_refusals c b = ((body_of c b ≡ None) × Nodes c 256, 7) ∷ []

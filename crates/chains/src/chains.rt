@@ -52,7 +52,9 @@ fn free_links() -> [Option<u8>; 321]
 
 impl Chains {
     ghost use Rattle.chains.specs.Orders.{no_order, in_front, put_in, cut_out};
-    ghost use Rattle.chains.specs.Chains.{body_of, body_at, order, Absent, Leads, Finds, Puts, Writes, Nodes};
+    ghost use Rattle.chains.specs.Chains.{body_of, body_at, order, Absent, Leads, Finds, Puts, Writes, Nodes, insert_refusals};
+    ghost use Rattle.chains.specs.Faults.{no_node_number};
+    ghost use Rattle.words.specs.Refusals.{First, Accepted};
 
     // No block has a node.
     pub fn new() -> Chains
@@ -101,11 +103,11 @@ impl Chains {
     }
 
     // Writes what is held of the block, on a new node where it has none.
-    #[tactic(auto, using(crate::proofs::Held::count_all, crate::proofs::Changes::all_linked))]
+    #[tactic(auto, using(crate::proofs::Held::count_all, crate::proofs::Held::found_held, crate::proofs::Changes::all_linked, crate::proofs::Changes::some_free))]
     pub fn insert(&mut self, block: Block, body: Body) -> Result<(), NoNode>
         ensures held { MatchResult result
-            (λ x. Puts self.old block.number (Some body) self.new)
-            (λ e. (body_of self.old block.number ≡ None) × Nodes self.old 256 × (self.new ≡ self.old)) }
+            (λ _. Accepted (insert_refusals self.old block.number) × Puts self.old block.number (Some body) self.new)
+            (λ _. First (insert_refusals self.old block.number) no_node_number × (self.new ≡ self.old)) }
         ensures order { OnOk result
             (order self.new ≡ put_in (is_some (body_of self.old block.number)) (order self.old) block.number) }
     {
