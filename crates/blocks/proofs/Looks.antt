@@ -10,7 +10,7 @@ use Rattle.words.specs.declared.form.Form.TheVariants as form
 use Rattle.words.specs.Layout.{block_of, offset_of, bucket_of}
 use Rattle.words.specs.Reading.{form_number, is_word, said, answer_of, reading}
 use Rattle.words.specs.Words.{form_of, bits_of}
-use Rattle.words.specs.Blocks.{StandsFor, page_word}
+use Rattle.words.specs.Blocks.{Mapping, StandsFor, page_word}
 use Rattle.words.proofs.Blocks.{full_says}
 use Rattle.chains.specs.declared.node.Body.{Body}
 use Rattle.chains.specs.declared.node.Body.TheVariants as body
@@ -19,6 +19,7 @@ use Rattle.chains.specs.declared.node.RowNumber.{RowNumber}
 use Rattle.chains.specs.Chains.{body_at, body_of, nodes_in, Finds}
 use Rattle.chains.specs.Orders.{place_of}
 use Rattle.blocks.specs.declared.blocks.Blocks.{Blocks}
+use Rattle.blocks.specs.declared.blocks.Walked.{Walked}
 use Rattle.blocks.specs.Blocks.{held, order, UsedIn, Walks}
 use Rattle.blocks.specs.Held.{row_in, body_pages}
 use Rattle.blocks.specs.Rows.{row_pages}
@@ -40,8 +41,12 @@ answers (Some t) None e = cc
 answers None (Some u) e = cc
 
 -- a word says what the reader answers from it
-pub read_says : (w : Word) (o : ℕ) (x : Option Translation) → o < 16 → reading (form_number (form_of w)) (bits_of w) o ≡ answer_of x → said (form_of w) (bits_of w) o ≡ x
+read_says : (w : Word) (o : ℕ) (x : Option Translation) → o < 16 → reading (form_number (form_of w)) (bits_of w) o ≡ answer_of x → said (form_of w) (bits_of w) o ≡ x
 read_says w o x l e = answers (said (form_of w) (bits_of w) o) x (sym (read w (a_word w) o l) ∙ e)
+
+-- so the word of a page says what the page is mapped to
+pub walk_says : (m : Mapping) (p : ℕ) (w : Walked) → Walks m p w → said (form_of w.word) (bits_of w.word) (offset_of p) ≡ m p
+walk_says m p w k = read_says w.word (offset_of p) (m p) (omega arith) k.reads
 
 module _ (s : Blocks) (p : ℕ) where
   used_in : UsedIn (held s) (bucket_of (block_of p)) (nodes_in s.chains (bucket_of (block_of p)))
