@@ -85,6 +85,7 @@ impl Chains {
     }
 
     // What a node holds; none where it is free.
+    #[tactic(auto, using(crate::proofs::Pairs::body_there))]
     pub fn body(&self, node: u8) -> Option<Body>
         ensures { result ≡ body_at self.now node }
     {
