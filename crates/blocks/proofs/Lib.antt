@@ -6,6 +6,7 @@ pub mod Counted
 pub mod Pages
 pub mod Steps
 pub mod Rooms
+pub mod Ordered
 pub mod Same
 pub mod Turns
 pub mod Looks

@@ -9,7 +9,7 @@ use Rattle.words.specs.Layout.{bit, block_of, offset_of, page_at, compact_word, 
 use Rattle.words.specs.Reading.{translation, said}
 use Rattle.words.specs.Blocks.{Mapping, Used, Placed, Compact, BlockWord, mapped_offsets}
 use Rattle.chains.specs.declared.node.Body.{Body}
-use Rattle.chains.specs.declared.node.Body.TheVariants.{Compact as OnWord, Row as OnRow}
+use Rattle.chains.specs.declared.node.Body.TheVariants as body
 use Rattle.chains.specs.Chains.{body_of}
 use Rattle.chains.specs.Counting.{how_many}
 use Rattle.chains.proofs.Buckets.{held_most}
@@ -99,7 +99,7 @@ module _ (s : Blocks) where
   pub held_at : (b o : ℕ) → o < 16 → held s (page_at b o) ≡ block_pages s.chains s.rows.rows b o
   held_at b o l = let (i, j) = in_block b o l in ap₂ (block_pages s.chains s.rows.rows) i j
 
-  narrow : (b : ℕ) (w : CompactWord) → body_of s.chains b ≡ Some (OnWord w) → w.bits < 2 ^ 64
+  narrow : (b : ℕ) (w : CompactWord) → body_of s.chains b ≡ Some (body.Compact w) → w.bits < 2 ^ 64
   narrow b w e = ltb-true w.bits (2 ^ 64) (ap is_narrow (sym e) ∙ s.narrow b)
 
   -- the pages of the block b
@@ -122,7 +122,7 @@ module _ (s : Blocks) where
     pub rowed : has_row s.chains b ≡ true → Rowed (held s) b
     rowed h = (used_some (mixed_some (block_pages s.chains s.rows.rows b) (λ k a p. s.mixed b k a h p)), λ c. let (k, a, p) = c in s.mixed b k a h (in_place k a p))
 
-    compact_word_of : (w : CompactWord) → body_of s.chains b ≡ Some (OnWord w) → Compact (held s) b
+    compact_word_of : (w : CompactWord) → body_of s.chains b ≡ Some (body.Compact w) → Compact (held s) b
     compact_word_of w e = (frame_block_in w.bits, attributes_in w.bits, placed _ _ (word_in_place w.bits (block_pages s.chains s.rows.rows b) (λ o l. ap (λ y. body_pages (row_pages s.rows.rows) y o) e)))
 
     pub not_rowed : has_row s.chains b ≡ false → Rowed (held s) b → ⊥
@@ -130,16 +130,16 @@ module _ (s : Blocks) where
       where
         each : (y : Option Body) → body_of s.chains b ≡ y → ⊥
         each None e = unused e u
-        each (Some (OnWord w)) e = nc (compact_word_of w e)
-        each (Some (OnRow r)) e = both_ways _ f (ap (λ y. ltb (row_in y) 128) e ∙ lt-ltb r.number 128 r.within)
+        each (Some (body.Compact w)) e = nc (compact_word_of w e)
+        each (Some (body.Row r)) e = both_ways _ f (ap (λ y. ltb (row_in y) 128) e ∙ lt-ltb r.number 128 r.within)
 
     pub used_body : is_some (body_of s.chains b) ≡ true → Used (held s) b
     used_body h = each (body_of s.chains b) refl h
       where
         each : (y : Option Body) → body_of s.chains b ≡ y → is_some y ≡ true → Used (held s) b
         each None e t = absurd (both_ways false refl t)
-        each (Some (OnWord w)) e t = used_some (let (o, l, u, q) = word_some w (narrow b w e) in (o, l, u, ap (λ y. body_pages (row_pages s.rows.rows) y o) e ∙ q))
-        each (Some (OnRow r)) e t = (rowed (ap (λ y. ltb (row_in y) 128) e ∙ lt-ltb r.number 128 r.within)).0
+        each (Some (body.Compact w)) e t = used_some (let (o, l, u, q) = word_some w (narrow b w e) in (o, l, u, ap (λ y. body_pages (row_pages s.rows.rows) y o) e ∙ q))
+        each (Some (body.Row r)) e t = (rowed (ap (λ y. ltb (row_in y) 128) e ∙ lt-ltb r.number 128 r.within)).0
 
     pub body_used : Used (held s) b → is_some (body_of s.chains b) ≡ true
     body_used u = each (body_of s.chains b) refl
@@ -155,7 +155,7 @@ module _ (s : Blocks) where
   exactly_rowed = record { test = has_row s.chains; tells = λ b l. (rowed b, λ r. ⊎_elim (λ t. t) (λ f. absurd (not_rowed b f r)) (cases_Bool (has_row s.chains b))); many = refl }
 
   -- the word of a compact block
-  pub block_word : (b : ℕ) (w : CompactWord) → body_of s.chains b ≡ Some (OnWord w) → BlockWord (held s) b w.bits
+  pub block_word : (b : ℕ) (w : CompactWord) → body_of s.chains b ≡ Some (body.Compact w) → BlockWord (held s) b w.bits
   block_word b w e =
       let says : (o : ℕ) → block_pages s.chains s.rows.rows b o ≡ said form.Compact w.bits o = λ o. ap (λ y. body_pages (row_pages s.rows.rows) y o) e in
       let l = narrow b w e in

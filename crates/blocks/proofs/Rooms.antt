@@ -1,5 +1,6 @@
 -- What a change of one page asks for, and when there is room for it.
-use Rattle.std.proofs.Common.{Result, Ok, Err, MatchResult, ◌≡◌, ℕ, ◌+◌, ◌^◌, ◌<◌, ◌≤◌, true, false, eqb, ltb, List, [], length, Some, None, Option, is_some, sym, refl, ap, ◌∙◌, subst, ⊎_elim, arith}
+use Rattle.std.proofs.Common.{Result, Ok, Err, MatchResult, ◌≡◌, ℕ, ◌+◌, ◌^◌, ◌<◌, ◌≤◌, ◌∷◌, true, false, eqb, ltb, List, [], length, Some, None, Option, is_some, sym, refl, ap, ◌∙◌, subst, ⊎_elim, arith}
+use Rattle.std.specs.Result.{IsOk}
 use Rattle.std.proofs.lemmas.Bool.{cases_eq, cases_Bool, both_ways, lt-ltb}
 use Rattle.words.specs.declared.compact.CompactWord.{CompactWord}
 use Rattle.words.specs.declared.translation.Translation.{Translation}
@@ -8,7 +9,7 @@ use Rattle.words.specs.Blocks.{Mapping, Used, Compact}
 use Rattle.words.specs.Points.{at}
 use Rattle.chains.specs.declared.chains.Chains.{Chains}
 use Rattle.chains.specs.declared.node.Body.{Body}
-use Rattle.chains.specs.declared.node.Body.TheVariants.{Compact as OnWord, Row as OnRow}
+use Rattle.chains.specs.declared.node.Body.TheVariants as body
 use Rattle.chains.specs.declared.node.RowNumber.{RowNumber}
 use Rattle.chains.specs.Chains.{body_of}
 use Rattle.chains.specs.Counting.{how_many}
@@ -21,7 +22,9 @@ use Rattle.blocks.specs.declared.fault.NoRoom.TheVariants.{NoNode, NoRow}
 use Rattle.blocks.specs.declared.row.Row.{Row}
 use Rattle.blocks.specs.declared.rows.Rows.{Rows}
 use Rattle.blocks.specs.declared.shape.Shape.TheVariants.{Mixed}
-use Rattle.blocks.specs.Blocks.{held, Rowed, UsedBlocks, RowedBlocks, NodesOut, Lacks, Refuses, Sets}
+use Rattle.words.specs.Refusals.{First, Accepted}
+use Rattle.blocks.specs.Faults.{room_number}
+use Rattle.blocks.specs.Blocks.{held, Rowed, UsedBlocks, RowedBlocks, NodesOut, RowsOut, set_refusals}
 use Rattle.blocks.specs.Held.{row_in, is_narrow, has_row, owners, body_pages, block_pages, held_in}
 use Rattle.blocks.specs.Rows.{row_pages, occurs}
 use Rattle.blocks.specs.Shapes.{Pages, InPlace, Shapes}
@@ -29,22 +32,34 @@ use Rattle.blocks.proofs.Counted.{exactly_one, tested}
 use Rattle.blocks.proofs.Pages.{in_block, SomePage, mixed_some, held_at, unused, rowed, not_rowed, used_body, word_in_place, exactly_used, exactly_rowed}
 use Rattle.blocks.proofs.Steps.{held_after, lent_after, taken_after, narrow_after, mixed_after}
 
+-- the page p of m is mapped to x in n, where there was room for it
+abbrev pub Sets : Mapping → ℕ → Option Translation → Mapping → Type 0
+Sets m p x n = Accepted (set_refusals m p x) × (n ≡ at m p x)
+
+-- there was no room for it
+abbrev pub Refuses : NoRoom → Mapping → ℕ → Option Translation → Type 0
+Refuses e m p x = First (set_refusals m p x) (room_number e)
+
+-- no node was wanting, or no row
+abbrev Lacks : NoRoom → Mapping → Mapping → ℕ → Type 0
+Lacks e m n b = First ((NodesOut m n b, 7) ∷ (RowsOut m n b, 8) ∷ []) (room_number e)
+
 module _ (s : Blocks) (b o : ℕ) (x : Option Translation) (m : o < 16) where
-  abbrev grown : Mapping
+  abbrev pub grown : Mapping
   grown = at (held s) (page_at b o) x
 
   -- the pages of the block then
-  abbrev next : Pages
+  abbrev pub next : Pages
   next = at (block_pages s.chains s.rows.rows b) o x
 
-  grown_at : (k : ℕ) → k < 16 → grown (page_at b k) ≡ next k
+  pub grown_at : (k : ℕ) → k < 16 → grown (page_at b k) ≡ next k
   grown_at k l = ⊎_elim
       (λ e. at_here (held s) (page_at b o) x (page_at b k) (ap (page_at b) e) ∙ sym (at_here (block_pages s.chains s.rows.rows b) o x k e))
       (λ ne. at_there (held s) (page_at b o) x (page_at b k) (λ q. ne (sym (in_block b k l).1 ∙ ap offset_of q ∙ (in_block b o m).1)) ∙ held_at s b k l
       ∙ sym (at_there (block_pages s.chains s.rows.rows b) o x k ne))
       (cases_eq k o)
 
-  used_next : SomePage next → Used grown b
+  pub used_next : SomePage next → Used grown b
   used_next (k, l, t, e) = (k, l, (t, grown_at k l ∙ e))
 
   rowed_next : Shapes Mixed next → Rowed grown b
@@ -72,13 +87,13 @@ module _ (s : Blocks) (b o : ℕ) (x : Option Translation) (m : o < 16) where
     no_pages : y ≡ None → Used grown b → ⊥
     no_pages e (k, i, (t, q)) = both_ways _ (sym (ap is_some q) ∙ ap is_some (grown_at k i ∙ sym (here k i) ∙ ap (λ v. body_pages (row_pages rs) v k) e)) refl
 
-    on_word : (w : CompactWord) → y ≡ Some (OnWord w) → Rowed grown b → ⊥
+    on_word : (w : CompactWord) → y ≡ Some (body.Compact w) → Rowed grown b → ⊥
     on_word w e (u, nc) = nc (frame_block_in w.bits, attributes_in w.bits, λ i t k q. word_in_place w.bits next (λ j n. sym (here j n) ∙ ap (λ v. body_pages (row_pages rs) v j) e) i t k (sym (grown_at i k) ∙ q))
 
     no_row : (v : Option Body) → y ≡ v → ltb (row_in v) 128 ≡ false → Rowed grown b → ⊥
     no_row None e f r = no_pages e r.0
-    no_row (Some (OnWord w)) e f r = on_word w e r
-    no_row (Some (OnRow r)) e f q = both_ways _ f (lt-ltb r.number 128 r.within)
+    no_row (Some (body.Compact w)) e f r = on_word w e r
+    no_row (Some (body.Row r)) e f q = both_ways _ f (lt-ltb r.number 128 r.within)
 
     node_left : Used grown b → (Used (held s) b → ⊥) → UsedBlocks (held s) 256 → ⊥
     node_left u nu n =
@@ -104,9 +119,11 @@ module _ (s : Blocks) (b o : ℕ) (x : Option Translation) (m : o < 16) where
         (λ q. ⊎_elim (λ v. let a = left v q in absurd (omega arith)) (λ v. no_row y refl v r) (cases_Bool (ltb (row_in y) 128)))
         (cases_Bool (has_row s.chains b))
 
-    pub room : (e : NoRoom) → Refuses e (held s) (page_at b o) x → ⊥
-    room NoNode r = let (u, nu, n) = subst (NodesOut (held s) grown) (in_block b o m).0 r in node_left u nu n
-    room NoRow r = let (_, q) = subst (Lacks NoRow (held s) grown) (in_block b o m).0 r in let (u, nu, n) = q in row_left u nu n
+    pub room : Accepted (set_refusals (held s) (page_at b o) x)
+    room = (
+      (λ r. let (u, nu, n) = subst (NodesOut (held s) grown) (in_block b o m).0 r in node_left u nu n),
+      ((λ r. let (u, nu, n) = subst (RowsOut (held s) grown) (in_block b o m).0 r in row_left u nu n), tt),
+    )
 
 -- one page of the block b was mapped to x, and its body is y now
 pub record Step (s : Blocks) (c : Chains) (rs : List Row) (spare : List RowNumber) (b o : ℕ) (x : Option Translation) (y : Option Body) : Type 0 where
@@ -133,10 +150,10 @@ kept_same s c rows e f = subst (λ d. Kept d rows.rows rows.spare.items) (sym e)
 
 module _ (s : Blocks) (c : Chains) (rs : List Row) (spare : List RowNumber) (b o : ℕ) (x : Option Translation) (y : Option Body) (t : Step s c rs spare b o x y) where
   pub sets : Sets (held s) (page_at b o) x (held_in c rs)
-  sets = record {
-    held = held_after s c rs b o x y t.small t.low t.puts t.others t.here;
-    room = room s b o x t.low c rs y t.small t.puts t.here (λ v q. let a = t.all in let e = ap one v in let f = ap one q in omega arith);
-  }
+  sets = (
+    room s b o x t.low c rs y t.small t.puts t.here (λ v q. let a = t.all in let e = ap one v in let f = ap one q in omega arith),
+    held_after s c rs b o x y t.small t.low t.puts t.others t.here,
+  )
 
   pub kept : Kept c rs spare
   kept = record {
@@ -145,6 +162,18 @@ module _ (s : Blocks) (c : Chains) (rs : List Row) (spare : List RowNumber) (b o
     narrow = narrow_after s c rs b o x y t.small t.low t.puts t.others t.here t.narrow;
     mixed = mixed_after s c rs b o x y t.small t.low t.puts t.others t.here (λ v k a p. t.mixed v k a (λ i u l e. p i u l (t.here i l ∙ e)));
   }
+
+-- a page that is named by its block and offset
+module _ (s t : Blocks) (b o p : ℕ) (x : Option Translation) (block : b ≡ block_of p) (offset : o ≡ offset_of p) where
+  of_page : page_at b o ≡ p
+  of_page = omega arith
+
+  pub page_set : (r : Result (Unit {0}) NoRoom) → MatchResult r (λ _. Sets (held s) (page_at b o) x (held t)) (λ e. Refuses e (held s) (page_at b o) x × (t ≡ s))
+      → MatchResult r (λ _. Sets (held s) p x (held t)) (λ e. Refuses e (held s) p x × (t ≡ s))
+  page_set r = subst (λ q. MatchResult r (λ _. Sets (held s) q x (held t)) (λ e. Refuses e (held s) q x × (t ≡ s))) of_page
+
+  pub page_sets : Sets (held s) (page_at b o) x (held t) → Sets (held s) p x (held t)
+  page_sets = subst (λ q. Sets (held s) q x (held t)) of_page
 
 -- a page that is unmapped needs no room
 module _ (m : Mapping) (p : ℕ) where
@@ -163,10 +192,11 @@ module _ (m : Mapping) (p : ℕ) where
   stays_compact : (b : ℕ) → Compact m b → Compact less b
   stays_compact b (k, a, h) = (k, a, λ o t l e. h o t l (was_mapped _ t e))
 
-  pub always_room : (e : NoRoom) → Refuses e m p None → ⊥
+  always_room : (e : NoRoom) → First (set_refusals m p None) (room_number e) → ⊥
   always_room NoNode (u, nu, n) = nu (was_used (block_of p) u)
   always_room NoRow (_, ((u, nc), nr, n)) = nr (was_used (block_of p) u, λ c. nc (stays_compact (block_of p) c))
 
-  pub cleared : (S : Type 0) (n : Mapping) (r : Result (Unit {0}) NoRoom) → MatchResult r (λ _. Sets m p None n) (λ e. Refuses e m p None × S) → n ≡ at m p None
-  cleared S n (Ok x) s = s.held
-  cleared S n (Err e) (r, _) = absurd (always_room e r)
+  -- so it is never refused
+  pub never_refused : (P S : Type 0) (r : Result (Unit {0}) NoRoom) → MatchResult r (λ _. P) (λ e. First (set_refusals m p None) (room_number e) × S) → IsOk r
+  never_refused P S (Ok x) q = refl
+  never_refused P S (Err e) (r, _) = absurd (always_room e r)

@@ -7,7 +7,7 @@ use Rattle.words.specs.Layout.{block_of, offset_of, page_at}
 use Rattle.words.specs.Points.{at}
 use Rattle.chains.specs.declared.chains.Chains.{Chains}
 use Rattle.chains.specs.declared.node.Body.{Body}
-use Rattle.chains.specs.declared.node.Body.TheVariants.{Compact as OnWord, Row as OnRow}
+use Rattle.chains.specs.declared.node.Body.TheVariants as body
 use Rattle.chains.specs.declared.node.RowNumber.{RowNumber}
 use Rattle.chains.specs.Chains.{body_of}
 use Rattle.chains.specs.Counting.{how_many}
@@ -26,8 +26,8 @@ use Rattle.blocks.proofs.Pages.{in_block}
 -- the pages of a body that has another row than q, after the row q was written
 pub other_row : (R : ℕ → Pages) (q : ℕ) (g : Pages) (y : Option Body) → (row_in y ≡ q → ⊥) → body_pages (at R q g) y ≡ body_pages R y
 other_row R q g None ne = refl
-other_row R q g (Some (OnWord w)) ne = refl
-other_row R q g (Some (OnRow r)) ne = at_there R q g r.number ne
+other_row R q g (Some (body.Compact w)) ne = refl
+other_row R q g (Some (body.Row r)) ne = at_there R q g r.number ne
 
 module _ (s : Blocks) where
   small : (b : ℕ) → row_in (body_of s.chains b) < 128 → b < 2 ^ 48

@@ -10,10 +10,12 @@ use Rattle.words.specs.declared.translation.Translation.{Translation}
 use Rattle.words.specs.Points.{at}
 use Rattle.chains.specs.declared.chains.Chains.{Chains}
 use Rattle.chains.specs.declared.node.Body.{Body}
-use Rattle.chains.specs.declared.node.Body.TheVariants.{Compact as OnWord, Row as OnRow}
+use Rattle.chains.specs.declared.node.Body.TheVariants as body
 use Rattle.chains.specs.declared.node.NoNode.{NoNode}
 use Rattle.chains.specs.declared.node.RowNumber.{RowNumber}
-use Rattle.chains.specs.Chains.{body_of, block_of_node, Puts, Writes, Nodes}
+use Rattle.words.specs.Refusals.{First, Accepted}
+use Rattle.chains.specs.Faults.{no_node_number}
+use Rattle.chains.specs.Chains.{body_of, block_of_node, Puts, Writes, insert_refusals}
 use Rattle.chains.proofs.Counts.{one}
 use Rattle.chains.proofs.Held.{at_same}
 use Rattle.chains.proofs.Linking.{at_here}
@@ -93,22 +95,22 @@ module _ (s : Blocks) (block : Block) (offset : Offset) (word : Option CompactWo
     mixed = λ t. absurd (both_ways false refl t);
   }
 
-  pub worded : (c : Chains) (w : CompactWord) → w.bits < 2 ^ 64 → Puts s.chains block.number (Some (OnWord w)) c → Shapes (Compact w) (at (word_pages word) offset.number to) → Step s c s.rows.rows s.rows.spare.items block.number offset.number to (Some (OnWord w))
+  pub worded : (c : Chains) (w : CompactWord) → w.bits < 2 ^ 64 → Puts s.chains block.number (Some (body.Compact w)) c → Shapes (Compact w) (at (word_pages word) offset.number to) → Step s c s.rows.rows s.rows.spare.items block.number offset.number to (Some (body.Compact w))
   worded c w l puts h = record {
     small = block.within;
     low = offset.within;
     puts = puts;
     others = λ d ne. refl;
     here = λ k m. sym (shaped (Compact w) h k m);
-    each = λ i m. (let e = stays (Some (OnWord w)) refl i in omega arith);
-    all = let e = stays_all (Some (OnWord w)) refl in omega arith;
+    each = λ i m. (let e = stays (Some (body.Compact w)) refl i in omega arith);
+    all = let e = stays_all (Some (body.Compact w)) refl in omega arith;
     narrow = lt-ltb w.bits (2 ^ 64) l;
     mixed = λ t. absurd (both_ways false refl t);
   }
 
-  pub given_row : (c : Chains) (rs : List Row) (spare : List RowNumber) (r : RowNumber) (row : Row) → Puts s.chains block.number (Some (OnRow r)) c
+  pub given_row : (c : Chains) (rs : List Row) (spare : List RowNumber) (r : RowNumber) (row : Row) → Puts s.chains block.number (Some (body.Row r)) c
       → Shapes Mixed (at (word_pages word) offset.number to) → s.rows.spare.items ≡ spare ++ r ∷ [] → row_pages rs ≡ at (row_pages s.rows.rows) r.number (pages_of row)
-      → ((k : ℕ) → k < 16 → pages_of row k ≡ at (word_pages word) offset.number to k) → Step s c rs spare block.number offset.number to (Some (OnRow r))
+      → ((k : ℕ) → k < 16 → pages_of row k ≡ at (word_pages word) offset.number to k) → Step s c rs spare block.number offset.number to (Some (body.Row r))
   given_row c rs spare r row puts h last rows pages =
       let (n, counts) = last_spare s.rows.spare.items spare r last in
       record {
@@ -127,9 +129,9 @@ module _ (s : Blocks) (block : Block) (offset : Offset) (word : Option CompactWo
 
   -- the word was inserted, or there was no node for it
   pub inserted_word : (c : Chains) (w : CompactWord) → w.bits < 2 ^ 64 → Shapes (Compact w) (at (word_pages word) offset.number to) → (r : Result (Unit {0}) NoNode)
-      → MatchResult r (λ _. Puts s.chains block.number (Some (OnWord w)) c) (λ _. (body_of s.chains block.number ≡ None) × Nodes s.chains 256 × (c ≡ s.chains)) → Kept c s.rows.rows s.rows.spare.items
-  inserted_word c w l h (Ok x) puts = kept s c s.rows.rows s.rows.spare.items block.number offset.number to (Some (OnWord w)) (worded c w l puts h)
-  inserted_word c w l h (Err e) (_, _, same) = kept_same s c s.rows same refl
+      → MatchResult r (λ _. Accepted (insert_refusals s.chains block.number) × Puts s.chains block.number (Some (body.Compact w)) c) (λ _. First (insert_refusals s.chains block.number) no_node_number × (c ≡ s.chains)) → Kept c s.rows.rows s.rows.spare.items
+  inserted_word c w l h (Ok x) (_, puts) = kept s c s.rows.rows s.rows.spare.items block.number offset.number to (Some (body.Compact w)) (worded c w l puts h)
+  inserted_word c w l h (Err e) (_, same) = kept_same s c s.rows same refl
 
   -- there is no word of pages that are none
   pub no_body : word ≡ None → body_of s.chains block.number ≡ None
@@ -139,12 +141,12 @@ module _ (s : Blocks) (block : Block) (offset : Offset) (word : Option CompactWo
   pub inserted_row : (c : Chains) (rows : Rows) (r : RowNumber) (row : Row) → Shapes Mixed (at (word_pages word) offset.number to) → s.rows.spare.items ≡ rows.spare.items ++ r ∷ []
       → row_pages rows.rows ≡ at (row_pages s.rows.rows) r.number (pages_of row) → ((k : ℕ) → k < 16 → pages_of row k ≡ at (word_pages word) offset.number to k)
       → (body_of s.chains block.number ≡ None → how_many (λ b. is_some (body_of s.chains b)) (2 ^ 48) ≡ 256 → ⊥) → (q : Result (Unit {0}) NoNode)
-      → MatchResult q (λ _. Puts s.chains block.number (Some (OnRow r)) c) (λ _. (body_of s.chains block.number ≡ None) × Nodes s.chains 256 × (c ≡ s.chains)) → Step s c rows.rows rows.spare.items block.number offset.number to (Some (OnRow r))
-  inserted_row c rows r row h last set pages room (Ok x) puts = given_row c rows.rows rows.spare.items r row puts h last set pages
-  inserted_row c rows r row h last set pages room (Err e) (none, full, _) = absurd (room none (sym full))
+      → MatchResult q (λ _. Accepted (insert_refusals s.chains block.number) × Puts s.chains block.number (Some (body.Row r)) c) (λ _. First (insert_refusals s.chains block.number) no_node_number × (c ≡ s.chains)) → Step s c rows.rows rows.spare.items block.number offset.number to (Some (body.Row r))
+  inserted_row c rows r row h last set pages room (Ok x) (_, puts) = given_row c rows.rows rows.spare.items r row puts h last set pages
+  inserted_row c rows r row h last set pages room (Err e) ((none, full), _) = absurd (room none (sym full))
 
 -- the block has the row r, of which a word was written
-module _ (s : Blocks) (block : Block) (offset : Offset) (r : RowNumber) (to : Option Translation) (own : body_of s.chains block.number ≡ Some (OnRow r)) (rs : List Row)
+module _ (s : Blocks) (block : Block) (offset : Offset) (r : RowNumber) (to : Option Translation) (own : body_of s.chains block.number ≡ Some (body.Row r)) (rs : List Row)
     (set : row_pages rs ≡ at (row_pages s.rows.rows) r.number (at (row_pages s.rows.rows r.number) offset.number to)) where
   abbrev was : Pages
   was = block_pages s.chains s.rows.rows block.number
@@ -183,8 +185,8 @@ module _ (s : Blocks) (block : Block) (offset : Offset) (r : RowNumber) (to : Op
         mixed = λ t. absurd (both_ways false refl t);
       }
 
-  pub worded_row : (c : Chains) (spare : List RowNumber) (w : CompactWord) → w.bits < 2 ^ 64 → Puts s.chains block.number (Some (OnWord w)) c → Shapes (Compact w) (row_pages rs r.number)
-      → spare ≡ s.rows.spare.items ++ r ∷ [] → Step s c rs spare block.number offset.number to (Some (OnWord w))
+  pub worded_row : (c : Chains) (spare : List RowNumber) (w : CompactWord) → w.bits < 2 ^ 64 → Puts s.chains block.number (Some (body.Compact w)) c → Shapes (Compact w) (row_pages rs r.number)
+      → spare ≡ s.rows.spare.items ++ r ∷ [] → Step s c rs spare block.number offset.number to (Some (body.Compact w))
   worded_row c spare w l puts h last =
       let (n, counts) = last_spare spare s.rows.spare.items r last in
       record {
@@ -199,11 +201,11 @@ module _ (s : Blocks) (block : Block) (offset : Offset) (r : RowNumber) (to : Op
         mixed = λ t. absurd (both_ways false refl t);
       }
 
-  pub kept_row : (spare : List RowNumber) → Shapes Mixed (row_pages rs r.number) → spare ≡ s.rows.spare.items → Step s s.chains rs spare block.number offset.number to (Some (OnRow r))
+  pub kept_row : (spare : List RowNumber) → Shapes Mixed (row_pages rs r.number) → spare ≡ s.rows.spare.items → Step s s.chains rs spare block.number offset.number to (Some (body.Row r))
   kept_row spare h same = record {
     small = block.within;
     low = offset.within;
-    puts = sym (at_same (body_of s.chains) block.number (Some (OnRow r)) own);
+    puts = sym (at_same (body_of s.chains) block.number (Some (body.Row r)) own);
     others = apart;
     here = λ k l. ap (λ f. f k) row_next;
     each = λ i l. ap₂ (λ xs y. occurs i xs + one (eqb (row_in y) i)) same (sym own);

@@ -6,7 +6,7 @@ use Rattle.words.specs.Layout.{block_of, offset_of}
 use Rattle.words.specs.Blocks.{Mapping}
 use Rattle.chains.specs.declared.chains.Chains.{Chains}
 use Rattle.chains.specs.declared.node.Body.{Body}
-use Rattle.chains.specs.declared.node.Body.TheVariants.{Compact, Row as OnRow}
+use Rattle.chains.specs.declared.node.Body.TheVariants as body
 use Rattle.chains.specs.Chains.{body_of, block_of_node}
 use Rattle.chains.specs.Counting.{how_many}
 use Rattle.blocks.specs.declared.row.Row.{Row}
@@ -15,20 +15,20 @@ use Rattle.blocks.specs.Shapes.{Pages, word_pages}
 
 -- the row of a body, or 128 where it has none
 abbrev pub row_in : Option Body → ℕ
-row_in (Some (OnRow r)) = r.number
-row_in (Some (Compact w)) = 128
+row_in (Some (body.Row r)) = r.number
+row_in (Some (body.Compact w)) = 128
 row_in None = 128
 
 -- the pages of a body
 abbrev pub body_pages : (ℕ → Pages) → Option Body → Pages
-body_pages rows (Some (OnRow r)) o = rows r.number o
-body_pages rows (Some (Compact w)) o = word_pages (Some w) o
+body_pages rows (Some (body.Row r)) o = rows r.number o
+body_pages rows (Some (body.Compact w)) o = word_pages (Some w) o
 body_pages rows None o = None
 
 -- the word of a body has 64 bits
 abbrev pub is_narrow : Option Body → Bool
-is_narrow (Some (Compact w)) = nat_lt w.bits (2 ^ 64)
-is_narrow (Some (OnRow r)) = true
+is_narrow (Some (body.Compact w)) = nat_lt w.bits (2 ^ 64)
+is_narrow (Some (body.Row r)) = true
 is_narrow None = true
 
 abbrev pub has_row : Chains → ℕ → Bool
@@ -48,7 +48,7 @@ held_in c rs p = block_pages c rs (block_of p) (offset_of p)
 
 -- the body of pages that are in a word, or of none
 abbrev pub word_body : Option CompactWord → Option Body
-word_body w = option_map Compact w
+word_body w = option_map body.Compact w
 
 -- the node has the block b, and that body
 abbrev pub HasNode : Chains → ℕ → ℕ × Body → Type 0

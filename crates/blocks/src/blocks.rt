@@ -1,5 +1,5 @@
 // What each block holds: its node, and its row where no compact word can have its pages.
-ghost use Rattle.std.specs.Prelude.{◌≡◌, ℕ, ◌+◌, ◌^◌, ◌<◌, true, None, Some, MatchOption, MatchResult};
+ghost use Rattle.std.specs.Prelude.{◌≡◌, ℕ, ◌+◌, ◌^◌, ◌<◌, true, None, Some, MatchOption, MatchResult, OnOk, IfSome};
 ghost use Rattle.arrayvec.specs.ArrayVec.{array_vec_len};
 ghost use Rattle.words.specs.Points.{at};
 ghost use Rattle.chains.specs.Counting.{how_many};
@@ -7,8 +7,11 @@ ghost use Rattle.blocks.specs.Shapes.{InPlace};
 ghost use Rattle.blocks.specs.Rows.{occurs};
 ghost use Rattle.blocks.specs.Held.{has_row, is_narrow, owners, block_pages, word_body, HasNode};
 ghost use Rattle.chains.specs.Chains.{body_of};
-ghost use Rattle.chains.specs.declared.node.Body.TheVariants.{Row as OnRow};
-ghost use Rattle.words.specs.Layout.{page_at};
+ghost use Rattle.chains.specs.Orders.{no_order, place_of};
+ghost use Rattle.chains.specs.declared.node.Body.TheVariants as body;
+ghost use Rattle.words.specs.Layout.{block_of, page_at};
+ghost use Rattle.words.specs.Refusals.{First, Accepted};
+ghost use Rattle.blocks.specs.Faults.{room_number};
 
 use crate::fault::NoRoom;
 use crate::row::Row;
@@ -37,11 +40,12 @@ pub struct Walked {
 }
 
 impl Blocks {
-    ghost use Rattle.blocks.specs.Blocks.{held, Walks, Sets, Refuses, UsedBlocks, RowedBlocks};
+    ghost use Rattle.blocks.specs.Blocks.{held, order, Walks, Reorders, set_refusals, UsedBlocks, RowedBlocks};
 
     // No page is mapped.
     pub fn new() -> Blocks
-        ensures { (p : ℕ) → held result p ≡ None }
+        ensures held { (p : ℕ) → held result p ≡ None }
+        ensures order { order result ≡ no_order }
     {
         Blocks {
             chains: Chains::new(),
@@ -65,7 +69,8 @@ impl Blocks {
 
     // The word of a page; none where it is not mapped.
     pub fn walk(&self, page: Page) -> Option<Walked>
-        ensures { MatchOption result (held self.now page.number ≡ None) (λ w. Walks (held self.now) page.number w) }
+        ensures word { MatchOption result (held self.now page.number ≡ None) (λ w. Walks (held self.now) page.number w) }
+        ensures place { IfSome result (λ w. place_of (order self.now) (block_of page.number) ≡ Some w.looked) }
     {
         let found = self.chains.find(page.block())?;
         // a node that was found is not free
@@ -83,9 +88,10 @@ impl Blocks {
 
     // Maps a page to a translation, or to none.
     pub fn set(&mut self, page: Page, to: Option<Translation>) -> Result<(), NoRoom>
-        ensures { MatchResult result
-            (λ _. Sets (held self.old) page.number to (held self.new))
-            (λ e. Refuses e (held self.old) page.number to × (self.new ≡ self.old)) }
+        ensures held { MatchResult result
+            (λ _. Accepted (set_refusals (held self.old) page.number to) × (held self.new ≡ at (held self.old) page.number to))
+            (λ e. First (set_refusals (held self.old) page.number to) (room_number e) × (self.new ≡ self.old)) }
+        ensures order { OnOk result (Reorders self.old (block_of page.number) self.new) }
     {
         let block = page.block();
         let offset = page.offset();
@@ -99,11 +105,13 @@ impl Blocks {
         }
     }
 
-    // Unmaps a page. A block that loses a page needs neither a node nor a row, so it is never refused.
+    // Unmaps a page.
     pub fn clear(&mut self, page: Page)
-        ensures { held self.new ≡ at (held self.old) page.number None }
+        ensures held { held self.new ≡ at (held self.old) page.number None }
+        ensures order { Reorders self.old (block_of page.number) self.new }
     {
-        let _ = self.set(page, None);
+        // a block that loses a page needs neither a node nor a row
+        self.set(page, None).unwrap();
     }
 
     // The node of a block, and what it has.
@@ -124,9 +132,11 @@ impl Blocks {
         to: Option<Translation>,
     ) -> Result<(), NoRoom>
         requires { body_of self.old.chains block.number ≡ word_body word }
-        ensures { MatchResult result
-            (λ _. Sets (held self.old) (page_at block.number offset.number) to (held self.new))
-            (λ e. Refuses e (held self.old) (page_at block.number offset.number) to × (self.new ≡ self.old)) }
+        ensures held { MatchResult result
+            (λ _. Accepted (set_refusals (held self.old) (page_at block.number offset.number) to)
+            × (held self.new ≡ at (held self.old) (page_at block.number offset.number) to))
+            (λ e. First (set_refusals (held self.old) (page_at block.number offset.number) to) (room_number e) × (self.new ≡ self.old)) }
+        ensures order { OnOk result (Reorders self.old block.number self.new) }
     {
         match changed(word, offset, to) {
             Shape::Empty => {
@@ -157,8 +167,10 @@ impl Blocks {
         offset: Offset,
         to: Option<Translation>,
     )
-        requires { HasNode self.old.chains block.number (node, OnRow row) }
-        ensures { Sets (held self.old) (page_at block.number offset.number) to (held self.new) }
+        requires { HasNode self.old.chains block.number (node, body.Row row) }
+        ensures room { Accepted (set_refusals (held self.old) (page_at block.number offset.number) to) }
+        ensures held { held self.new ≡ at (held self.old) (page_at block.number offset.number) to }
+        ensures order { Reorders self.old block.number self.new }
     {
         self.rows.set(row, offset, to);
         match self.rows.shape(row) {

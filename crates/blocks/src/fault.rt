@@ -1,7 +1,7 @@
 // Why a page cannot be mapped.
 ghost use Rattle.std.specs.Prelude.{◌≡◌, Some};
 ghost use Rattle.blocks.specs.Faults.{room_number, room_reason};
-ghost use Rattle.blocks.specs.declared.fault.NoRoom.TheVariants.{NoNode as NodeFault};
+ghost use Rattle.blocks.specs.declared.fault.NoRoom.TheVariants as room;
 
 use chains::NoNode;
 use std::error::Error;
@@ -27,7 +27,7 @@ impl From<NoRoom> for u64 {
 }
 
 impl From<NoNode> for NoRoom {
-    ghost from_gives = { λ _ fault. fault ≡ NodeFault };
+    ghost from_gives = { λ _ fault. fault ≡ room.NoNode };
 
     fn from(_fault: NoNode) -> NoRoom {
         NoRoom::NoNode

@@ -1,7 +1,6 @@
 // The form that the pages of a block can have.
 ghost use Rattle.std.specs.Prelude.{◌≡◌, ℕ, Some, None, Option, MatchOption};
 ghost use Rattle.words.specs.Points.{at};
-ghost use Rattle.words.specs.declared.translation.Translation.{Translation as APage};
 ghost use Rattle.blocks.specs.Shapes.{Shapes, word_pages};
 
 use words::{CompactWord, Offset, Translation};
@@ -27,7 +26,7 @@ impl Shape {
 
     // With one page more.
     pub(crate) fn with(self, offset: Offset, translation: Translation) -> Shape
-        ensures { (f : ℕ → Option APage) → f offset.number ≡ None → Shapes self f → Shapes result (at f offset.number (Some translation)) }
+        ensures { (f : ℕ → Option Translation) → f offset.number ≡ None → Shapes self f → Shapes result (at f offset.number (Some translation)) }
     {
         match self {
             Shape::Empty => match CompactWord::of_page(offset, translation) {

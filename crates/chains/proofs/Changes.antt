@@ -1,9 +1,9 @@
 -- What is held of each block after a body is written, a node linked, or a node unlinked.
-use Rattle.std.proofs.Common.{is_some, option_and_then, ◌≡◌, ℕ, ◌+◌, ◌^◌, ◌<◌, ◌≤◌, true, false, cond, ltb, ◌⊎◌, List, [], ◌∷◌, length, get_or, set, Some, None, Option, sym, refl, ap, ◌∙◌, subst, ap₂, inl, inr, ⊎_elim, arith, length-set, MatchOption}
+use Rattle.std.proofs.Common.{is_some, option_and_then, ◌≡◌, ℕ, ◌+◌, ◌^◌, ◌<◌, ◌≤◌, true, false, cond, ltb, ◌⊎◌, List, [], ◌∷◌, length, get_or, set, Some, None, Option, sym, refl, ap, ◌∙◌, subst, ap₂, inl, inr, ⊎_elim, arith, length-set, map, MatchOption}
 use mathlib.Core.Path.{fun_ext}
 use Rattle.std.proofs.lemmas.Option.{slice_get_past, slice_get-get_or}
-use Rattle.std.proofs.lemmas.Bool.{cases_eq, cases_Bool, both_ways, lt-ltb, le-ltb, cond-false}
-use Rattle.std.specs.List.{slice_get}
+use Rattle.std.proofs.lemmas.Bool.{cases_eq, cases_lt, cases_Bool, both_ways, lt-ltb, le-ltb, cond-false}
+use Rattle.std.specs.List.{slice_get, filter_map}
 use Rattle.std.specs.Option.{option_map}
 use Rattle.words.specs.Layout.{bucket_of}
 use Rattle.words.specs.Points.{at}
@@ -13,16 +13,19 @@ use Rattle.chains.specs.declared.node.Body.{Body}
 use Rattle.chains.specs.declared.node.Content.TheVariants.{Free}
 use Rattle.chains.specs.Contents.{Node, body_in, owner_in}
 use Rattle.chains.specs.declared.node.Way.{Way}
-use Rattle.chains.specs.Chains.{nodes_of, node_of, body_of, block_of_node, Leads}
+use Rattle.chains.specs.Chains.{nodes_of, node_of, body_of, block_of_node, order, Leads, Nodes}
 use Rattle.chains.specs.Counting.{how_many}
 use Rattle.chains.specs.Links.{on, cut}
+use Rattle.chains.specs.Orders.{in_front, cut_out}
 use Rattle.chains.specs.Blocks.{block_number}
 use Rattle.chains.specs.Nodes.{link_number, link_at, owner, is_linked, block_at, home_of, home_at, chain_from, node_for, is_held, Sound, Single, Kept, Holds, NoTwice, NoneLost}
 use Rattle.chains.proofs.Counts.{one, many_at, many_all, many_less}
 use Rattle.chains.proofs.Cut.{on_not_off}
-use Rattle.chains.proofs.Held.{held_some, has_body, owner_of, at_same, next_in, no_node, home_in, block_in, home_most, no_flag_of_home, node_of_block, block_of_linked, at_map, link_set, owner_set, nth_at}
+use Rattle.chains.proofs.Held.{chain, count_all, owned, unowned, node_on, home_of_flag, has_body, owner_of, at_same, next_in, no_node, home_in, block_in, home_most, no_flag_of_home, node_of_block, block_of_linked, at_map, link_set, owner_set, nth_at}
 use Rattle.chains.proofs.Linking.{at_here, at_there, chain_b₀, chain_other, chain_b, chain_k, push_next, push_home, push_block, push_sound, push_single, push_kept, push_here, push_others, cut_next, cut_home, cut_block, cut_sound, cut_single, cut_kept, cut_others, cut_gone}
+use Rattle.chains.proofs.Orders.{order_in, bucket_order, none_past, map_framed, cut_blocks}
 use Rattle.chains.proofs.Steps.{step, over}
+use Rattle.chains.proofs.Walks.{Off, away}
 
 -- the body of a node as a function of its place
 abbrev pub bodies : List Node → ℕ → Option Body
@@ -45,15 +48,6 @@ module _ (ns : List Node) (i : ℕ) (n : Node) (l : i < length ns) where
       (λ e. ap₂ (λ x y. cond x (bucket_of y) 64) (at_here (is_linked ns) i (is_some (owner_in n)) k e) (at_here (block_at ns) i (block_number (owner_in n)) k e) ∙ sym (at_here (home_at ns) i _ k e))
       (λ ne. ap₂ (λ x y. cond x (bucket_of y) 64) (at_there (is_linked ns) i (is_some (owner_in n)) k ne) (at_there (block_at ns) i (block_number (owner_in n)) k ne) ∙ sym (at_there (home_at ns) i _ k ne))
       (cases_eq k i))
-
--- the block of a linked node
-pub owned : (o : Option Block) → is_some o ≡ true → option_map (λ (k : Block). k.number) o ≡ Some (block_number o)
-owned (Some k) t = refl
-owned None t = absurd (both_ways false refl t)
-
-pub unowned : (o : Option Block) → is_some o ≡ false → option_map (λ (k : Block). k.number) o ≡ None
-unowned (Some k) f = absurd (both_ways true f refl)
-unowned None f = refl
 
 -- a body is written on the node i
 module _ (c : Chains) (i : ℕ) (n : Node) (l : i < 256) where
@@ -98,6 +92,9 @@ module _ (c : Chains) (i : ℕ) (d n : Node) (y : Body) (l : i < 256) (block : n
   pub replaced_held : c.count ≡ how_many (is_held c.links ms) (2 ^ 48)
   replaced_held = c.held ∙ ap (λ f. how_many (λ b. ltb (node_for (next_in c) (λ k. block_number (f k)) b) 256) (2 ^ 48)) (sym owners)
 
+  pub replaced_order : order_in c.links ms ≡ order c
+  replaced_order = ap (λ f k. filter_map (λ i. option_map (λ (x : Block). x.number) (f i)) (chain_from (next_in c) k)) owners
+
   pub replaced_puts : (j : ℕ) → i ≡ j → MatchOption (block_of_node c j) ((λ b. bodies ms (node_for (next_in c) (block_at ms) b)) ≡ body_of c) (λ k. (λ b. bodies ms (node_for (next_in c) (block_at ms) b)) ≡ at (body_of c) k (Some y))
   replaced_puts j e = subst (λ h. MatchOption (block_of_node c h) ((λ b. bodies ms (node_for (next_in c) (block_at ms) b)) ≡ body_of c) (λ k. (λ b. bodies ms (node_for (next_in c) (block_at ms) b)) ≡ at (body_of c) k (Some y))) e
       (subst (λ f. MatchOption (block_of_node c i) ((λ b. bodies ms (node_for (next_in c) (λ k. block_number (f k)) b)) ≡ body_of c) (λ k. (λ b. bodies ms (node_for (next_in c) (λ h. block_number (f h)) b)) ≡ at (body_of c) k (Some y))) (sym owners)
@@ -127,6 +124,16 @@ all_linked c none = let g : 256 ≤ next_in c 320 = (let e = ap link_number none
     (λ f. absurd (on_not_off i [] (subst (λ k. on i k ≡ true) (over (next_in c) (home_in c) 64 (next_in c 320) (c.sound 64 (omega arith)) g)
     (subst (λ k. on i (chain_from (next_in c) k) ≡ true) (cond-false (is_linked (nodes_of c) i) (bucket_of (block_in c i)) 64 f) (c.kept i l))) tt))
     (cases_Bool (is_linked (nodes_of c) i)))
+
+-- a node is free, so not every node is linked
+pub some_free : (c : Chains) (i : ℕ) → get_or c.links 320 None ≡ Some i → i < 256 → Nodes c 256 → ⊥
+some_free c i e l n =
+    let f = ap link_number e in
+    let free = no_flag_of_home c (next_in c 320) (step (next_in c) (home_in c) 64 (next_in c 320) (c.sound 64 (omega arith)) (omega arith)).4 in
+    let m = many_less (is_linked (nodes_of c)) (next_in c 320) 256 (omega arith) free in
+    let k = c.counted in
+    let a = count_all c in
+    omega arith
 
 -- the first free node is linked for the block; i and j are its number
 module _ (c : Chains) (block : Block) (n : Node) (y : Body) (h i j : ℕ) (of_block : n.block ≡ block) (has : body_in n ≡ Some y) (bucket : h ≡ bucket_of block.number) (same : i ≡ j) (absent : body_of c block.number ≡ None)
@@ -243,16 +250,45 @@ module _ (c : Chains) (block : Block) (n : Node) (y : Body) (h i j : ℕ) (of_bl
       (λ ne. chain_other (next_in c) (home_in c) (block_in c) c.sound c.single c.kept (home_most c) b₀ none left k l ne ∙ sym (at_there (chain_from (next_in c)) (bucket_of b₀) _ k ne))
       (cases_eq k (bucket_of b₀))
 
-  pub pushed_order : MatchOption (body_of c b₀)
-      ((k : ℕ) → k < 64 → chain_from (link_at ls) k ≡ at (chain_from (next_in c)) (bucket_of b₀) (node_for (link_at ls) (block_at ns) b₀ ∷ chain_from (next_in c) (bucket_of b₀)) k)
-      (λ _. chain_from (link_at ls) ≡ chain_from (next_in c))
-  pushed_order = subst (λ o. MatchOption o
-      ((k : ℕ) → k < 64 → chain_from (link_at ls) k ≡ at (chain_from (next_in c)) (bucket_of b₀) (node_for (link_at ls) (block_at ns) b₀ ∷ chain_from (next_in c) (bucket_of b₀)) k)
-      (λ _. chain_from (link_at ls) ≡ chain_from (next_in c))) (sym absent) chain_after
+  longer : length ls ≡ 321
+  longer = let a = length-set c.links i (get_or c.links (256 + h) None) in
+      let b = length-set (set c.links i (get_or c.links (256 + h) None)) 320 (get_or c.links i None) in
+      let d = length-set (set (set c.links i (get_or c.links (256 + h) None)) 320 (get_or c.links i None)) (256 + h) (Some j) in
+      omega arith
 
-match_some : {X : Type 0} (P Q : Type 0) (o : Option X) → is_some o ≡ true → Q → MatchOption o P (λ _. Q)
-match_some P Q (Some x) t q = q
-match_some P Q None t q = absurd (both_ways false refl t)
+  -- the blocks of each chain, seen by the blocks of the nodes as they are now
+  same_blocks : (k : ℕ) → k ≡ i ⊎ ((k ≡ i → ⊥) × (block_at ns k ≡ block_in c k))
+  same_blocks k = ⊎_elim inl (λ ne. inr (ne, ap (λ f. f k) blocks ∙ at_there (block_in c) (next_in c 320) b₀ k (λ e. ne (e ∙ first)))) (cases_eq k i)
+
+  new_block : block_at ns i ≡ b₀
+  new_block = ap (λ f. f i) blocks ∙ at_here (block_in c) (next_in c 320) b₀ i (sym first)
+
+  -- the free node is on no chain of a bucket
+  off : (k : ℕ) → k < 64 → Off i (chain_from (next_in c) k)
+  off k l = away (next_in c) (home_in c) k i (next_in c (256 + k)) (chain_from (next_in c) k) (chain c k (omega arith))
+      (λ e. let f = cond-false (is_linked (nodes_of c) i) (bucket_of (block_in c i)) 64 was_free in omega arith)
+
+  stays : (k : ℕ) → k < 64 → map (block_at ns) (chain_from (next_in c) k) ≡ order c k
+  stays k l = map_framed (block_in c) (block_at ns) i (λ y ne. ⊎_elim (λ e. absurd (ne e)) (λ p. p.1) (same_blocks y)) (chain_from (next_in c) k) (off k l)
+      ∙ sym (bucket_order c.links (nodes_of c) c.sound k l)
+
+  abbrev chain_now : ℕ → List ℕ
+  chain_now = at (chain_from (next_in c)) (bucket_of b₀) (node_for (link_at ls) (block_at ns) b₀ ∷ chain_from (next_in c) (bucket_of b₀))
+
+  -- the block is in front of its bucket
+  pub pushed_order : order_in ls ns ≡ in_front (order c) b₀
+  pushed_order = fun_ext (λ k. ⊎_elim
+      (λ l. bucket_order ls ns pushed_sound k l ∙ ap (map (block_at ns)) (chain_after k l) ∙ ⊎_elim (λ e. here k l e) (λ ne. there k l ne) (cases_eq k (bucket_of b₀)))
+      (λ g. none_past ls ns pushed_sound longer k g ∙ sym (at_there (order c) (bucket_of b₀) _ k (λ e. omega arith) ∙ none_past c.links (nodes_of c) c.sound wl k g))
+      (cases_lt k 64))
+    where
+      here : (k : ℕ) → k < 64 → k ≡ bucket_of b₀ → map (block_at ns) (chain_now k) ≡ in_front (order c) b₀ k
+      here k l e = ap (map (block_at ns)) (at_here (chain_from (next_in c)) (bucket_of b₀) _ k e)
+          ∙ ap₂ (λ x m. x ∷ m) (ap (block_at ns) node_here ∙ new_block) (stays (bucket_of b₀) (omega arith))
+          ∙ sym (at_here (order c) (bucket_of b₀) _ k e)
+
+      there : (k : ℕ) → k < 64 → (k ≡ bucket_of b₀ → ⊥) → map (block_at ns) (chain_now k) ≡ in_front (order c) b₀ k
+      there k l ne = ap (map (block_at ns)) (at_there (chain_from (next_in c)) (bucket_of b₀) _ k ne) ∙ stays k l ∙ sym (at_there (order c) (bucket_of b₀) _ k ne)
 
 -- the node of the block, to which the place q leads, is unlinked; i and j are its number
 module _ (c : Chains) (block : Block) (w : Way) (i : ℕ) (leads : Leads c block.number w) (same : i ≡ w.found.node) (small : w.found.node < 256) (wl : length c.links ≡ 321) (keep : Block) (ns' : List Node) (is' : ns' ≡ set (nodes_of c) i (record { block = keep; content = Free })) where
@@ -376,6 +412,38 @@ module _ (c : Chains) (block : Block) (w : Way) (i : ℕ) (leads : Leads c block
       (λ ne. chain_k (next_in c) (home_in c) (block_in c) c.sound c.single c.kept (home_most c) q (bucket_of k₀) live place follows k l ne ∙ sym (at_there (chain_from (next_in c)) (bucket_of k₀) _ k ne))
       (cases_eq k (bucket_of k₀))
 
-  pub unlinked_order : MatchOption (body_of c k₀) (chain_from (link_at ls') ≡ chain_from (next_in c))
-      (λ _. (k : ℕ) → k < 64 → chain_from (link_at ls') k ≡ at (chain_from (next_in c)) (bucket_of k₀) (cut (node_of c k₀) (chain_from (next_in c) (bucket_of k₀))) k)
-  unlinked_order = match_some _ _ (body_of c k₀) (held_some c k₀ ∙ lt-ltb (node_of c k₀) 256 (let e = at_q in omega arith)) chain_after'
+  longer' : length ls' ≡ 321
+  longer' = let a = length-set c.links w.place (get_or c.links i None) in
+      let b = length-set (set c.links w.place (get_or c.links i None)) i (get_or c.links 320 None) in
+      let d = length-set (set (set c.links w.place (get_or c.links i None)) i (get_or c.links 320 None)) 320 (Some w.found.node) in
+      omega arith
+
+  same_block' : (y : ℕ) → (y ≡ i → ⊥) → block_at ns' y ≡ block_in c y
+  same_block' y ne = ap (λ f. f y) blocks' ∙ at_there (block_in c) (next_in c q) 0 y (λ e. ne (e ∙ is_i))
+
+  own_block' : block_in c (node_of c k₀) ≡ k₀
+  own_block' = let e = at_q in (node_of_block c k₀ (omega arith)).1
+
+  abbrev chain_now' : ℕ → List ℕ
+  chain_now' = at (chain_from (next_in c)) (bucket_of k₀) (cut (node_of c k₀) (chain_from (next_in c) (bucket_of k₀)))
+
+  -- the block is cut out of its bucket
+  pub unlinked_order : order_in ls' ns' ≡ cut_out (order c) k₀
+  unlinked_order = fun_ext (λ k. ⊎_elim
+      (λ l. bucket_order ls' ns' unlinked_sound k l ∙ ap (map (block_at ns')) (chain_after' k l) ∙ ⊎_elim (λ e. here k l e) (λ ne. there k l ne) (cases_eq k (bucket_of k₀)))
+      (λ g. none_past ls' ns' unlinked_sound longer' k g ∙ sym (at_there (order c) (bucket_of k₀) _ k (λ e. omega arith) ∙ none_past c.links (nodes_of c) c.sound wl k g))
+      (cases_lt k 64))
+    where
+      here : (k : ℕ) → k < 64 → k ≡ bucket_of k₀ → map (block_at ns') (chain_now' k) ≡ cut_out (order c) k₀ k
+      here k l e = ap (map (block_at ns')) (at_here (chain_from (next_in c)) (bucket_of k₀) _ k e)
+          ∙ cut_blocks (next_in c) (home_in c) (block_in c) (block_at ns') (bucket_of k₀) (node_of c k₀) (λ y ne. same_block' y (λ z. ne (z ∙ sym at_q)))
+          _ (chain_from (next_in c) (bucket_of k₀)) (chain c (bucket_of k₀) (omega arith)) (c.single (bucket_of k₀) live)
+          (node_on (block_in c) k₀ (chain_from (next_in c) (bucket_of k₀)) (let z = at_q in omega arith)).0
+          ∙ ap₂ cut own_block' (sym (bucket_order c.links (nodes_of c) c.sound (bucket_of k₀) live))
+          ∙ sym (at_here (order c) (bucket_of k₀) _ k e)
+
+      there : (k : ℕ) → k < 64 → (k ≡ bucket_of k₀ → ⊥) → map (block_at ns') (chain_now' k) ≡ cut_out (order c) k₀ k
+      there k l ne = ap (map (block_at ns')) (at_there (chain_from (next_in c)) (bucket_of k₀) _ k ne)
+          ∙ map_framed (block_in c) (block_at ns') i same_block' (chain_from (next_in c) k)
+          (away (next_in c) (home_in c) k i (next_in c (256 + k)) (chain_from (next_in c) k) (chain c k (omega arith)) (λ e. ne (sym e ∙ home_of_flag c i own.0 ∙ ap bucket_of (ap (block_in c) (sym is_i) ∙ own.1))))
+          ∙ sym (bucket_order c.links (nodes_of c) c.sound k l) ∙ sym (at_there (order c) (bucket_of k₀) _ k ne)

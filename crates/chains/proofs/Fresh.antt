@@ -1,17 +1,22 @@
 -- New chains: every node is free.
-use Rattle.std.specs.List.{slice_get}
+use mathlib.Core.Path.{fun_ext}
+use Rattle.std.specs.List.{slice_get, filter_map}
+use Rattle.std.specs.Option.{option_map}
 use Rattle.std.proofs.lemmas.Option.{slice_get_past}
 use lib.ListN.{length-replicate}
 use Rattle.std.proofs.Common.{None, Option, is_some, option_and_then, ◌≡◌, ℕ, zero, suc, ◌+◌, ◌^◌, ◌<◌, ◌≤◌, true, false, List, [], ◌∷◌, replicate, sym, refl, ap, ◌∙◌, subst, ⊎_elim, arith}
 use Rattle.std.proofs.lemmas.Bool.{cases_lt, cases_eq, le-ltb, cond-false}
 use Rattle.words.specs.Layout.{bucket_of}
+use Rattle.words.specs.declared.address.Block.{Block}
 use Rattle.chains.specs.Counting.{how_many}
 use Rattle.chains.specs.Links.{chained, node_with, no_twice, on}
 use Rattle.chains.specs.Contents.{body_in, owner_in, Node}
 use Rattle.chains.specs.Nodes.{AllFree, link_at, owner, block_at, is_linked, home_at, chain_from, node_for, is_held, Sound, Single, Kept}
 use Rattle.chains.proofs.Counts.{many_none}
 use Rattle.chains.proofs.Cut.{on_here, on_there}
+use Rattle.chains.specs.Orders.{no_order}
 use Rattle.chains.proofs.Linking.{settled}
+use Rattle.chains.proofs.Orders.{no_blocks}
 use Rattle.chains.proofs.Walks.{Chained, whole, node_none}
 
 up : ℕ → ℕ → List ℕ
@@ -94,3 +99,6 @@ module _ (ls : List (Option ℕ)) (all_free : AllFree ls) (n : Node) (blank : ow
 
   pub fresh_body : (b : ℕ) → option_and_then body_in (slice_get ns (node_for (link_at ls) (block_at ns) b)) ≡ None
   fresh_body b = ap (option_and_then body_in) (slice_get_past ns (node_for (link_at ls) (block_at ns) b) (let l = length-replicate 256 n in let e = fresh_node b in omega arith))
+
+  pub fresh_order : (λ k. filter_map (λ i. option_map (λ (b : Block). b.number) (owner ns i)) (chain_from (link_at ls) k)) ≡ no_order
+  fresh_order = fun_ext (λ k. no_blocks (λ i. option_map (λ (b : Block). b.number) (owner ns i)) (λ i. ap (option_map (λ (b : Block). b.number)) (spare_owner n blank 256 i)) (chain_from (link_at ls) k))

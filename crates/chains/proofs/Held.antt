@@ -8,7 +8,7 @@ use Rattle.std.specs.List.{slice_get}
 use Rattle.words.specs.Layout.{bucket_of}
 use Rattle.words.specs.Points.{at}
 use Rattle.chains.specs.declared.chains.Chains.{Chains}
-use Rattle.chains.specs.Chains.{nodes_of, node_of, body_of, block_of_node}
+use Rattle.chains.specs.Chains.{nodes_of, node_of, body_of, block_of_node, Finds}
 use Rattle.chains.specs.Links.{walk, node_with, no_twice, on}
 use Rattle.std.specs.Option.{option_map}
 use Rattle.words.specs.declared.address.Block.{Block}
@@ -16,6 +16,7 @@ use Rattle.chains.specs.Contents.{Node, body_in, owner_in}
 use Rattle.chains.specs.Counting.{how_many}
 use Rattle.chains.specs.Blocks.{block_number}
 use Rattle.chains.specs.declared.node.Body.{Body}
+use Rattle.chains.specs.declared.node.Found.{Found}
 use Rattle.chains.specs.Nodes.{link_number, link_at, owner, is_linked, block_at, home_at, chain_from}
 use Rattle.chains.proofs.Linking.{at_here, at_there, at_home}
 use Rattle.chains.proofs.Steps.{Going, step, falls, passed, here, nowhere}
@@ -65,7 +66,7 @@ node_on bl b (x ∷ l) h = ⊎_elim
     (subst (λ z. on z (x ∷ l) ≡ true) (sym d) (or_right _ _ o), ap bl d ∙ e))
     (cases_eq (bl x) b)
 
-on_under : (nx hm : ℕ → ℕ) (k i : ℕ) (l : List ℕ) (j : ℕ) → Chained nx hm k i l → on j l ≡ true → j < 256
+pub on_under : (nx hm : ℕ → ℕ) (k i : ℕ) (l : List ℕ) (j : ℕ) → Chained nx hm k i l → on j l ≡ true → j < 256
 unfolding on
 on_under nx hm k i [] j h o = absurd (both_ways false refl o)
 on_under nx hm k i (x ∷ l) j (e, lt, hb, r) o = ⊎_elim (λ t. let d = eqb-true x j t in omega arith) (λ t. on_under nx hm k (nx x) l j r t) (or_cases _ _ o)
@@ -79,7 +80,7 @@ node_most nx hm bl k b i (x ∷ l) (e, lt, hb, r) = ⊎_elim
     (cases_eq (bl x) b)
 
 -- a node of a chain without a block twice is the one that is found for its block
-node_own : (nx hm bl : ℕ → ℕ) (k i : ℕ) (l : List ℕ) (j : ℕ) → Chained nx hm k i l → no_twice bl l ≡ true → on j l ≡ true → node_with bl (bl j) l ≡ j
+pub node_own : (nx hm bl : ℕ → ℕ) (k i : ℕ) (l : List ℕ) (j : ℕ) → Chained nx hm k i l → no_twice bl l ≡ true → on j l ≡ true → node_with bl (bl j) l ≡ j
 unfolding no_twice on
 node_own nx hm bl k i [] j h s o = absurd (both_ways false refl o)
 node_own nx hm bl k i (x ∷ l) j (e, lt, hb, r) s o = ⊎_elim
@@ -191,6 +192,15 @@ nth_at {X = X} xs i v l = fun_ext (λ k. ⊎_elim
 pub owner_set : (ns : List Node) (i : ℕ) (n : Node) → i < length ns → owner (set ns i n) ≡ at (owner ns) i (owner_in n)
 owner_set ns i n l = ap (λ f k. option_and_then owner_in (f k)) (nth_at ns i n l) ∙ at_map (option_and_then owner_in) (slice_get ns) i (Some n)
 
+-- the block of a linked node
+pub owned : (o : Option Block) → is_some o ≡ true → option_map (λ (k : Block). k.number) o ≡ Some (block_number o)
+owned (Some k) t = refl
+owned None t = absurd (both_ways false refl t)
+
+pub unowned : (o : Option Block) → is_some o ≡ false → option_map (λ (k : Block). k.number) o ≡ None
+unowned (Some k) f = absurd (both_ways true f refl)
+unowned None f = refl
+
 -- the element after k others
 dropped : (l : List ℕ) (k x : ℕ) (m : List ℕ) → drop k l ≡ x ∷ m → (k < length l) × (slice_get l k ≡ Some x) × (drop (k + 1) l ≡ m)
 dropped [] zero x m e = cc
@@ -277,3 +287,7 @@ linked_small c i b e = ⊎_elim
 -- the counter says how many blocks have a node
 pub count_all : (c : Chains) → c.count ≡ how_many (λ b. is_some (body_of c b)) (2 ^ 48)
 count_all c = c.held ∙ ap (λ f. how_many f (2 ^ 48)) (fun_ext (λ b. sym (held_some c b)))
+
+-- a block whose node was found has a body
+pub found_held : (c : Chains) (b : ℕ) (f : Found) → Finds c b f → f.node < 256 → body_of c b ≡ None → ⊥
+found_held c b f e l n = let d = e.node in let m = no_node c b n in omega arith

@@ -7,5 +7,6 @@ pub mod Linking
 pub mod Steps
 pub mod Held
 pub mod Buckets
+pub mod Orders
 pub mod Changes
 pub mod Fresh

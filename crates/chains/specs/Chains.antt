@@ -1,11 +1,11 @@
 -- What is held of each block.
-use Rattle.std.specs.Prelude.{◌≡◌, ℕ, ◌-◌, ◌^◌, ◌≤◌, ◌<◌, ◌&&◌, ◌==◌, List, ◌∷◌, is_some, Some, None, Option, MatchOption, option_and_then, slice_index_or}
+use Rattle.std.specs.Prelude.{◌≡◌, ℕ, ◌^◌, ◌≤◌, ◌&&◌, ◌==◌, List, [], ◌∷◌, is_some, Some, None, Option, MatchOption, option_and_then, slice_index_or}
 use Rattle.std.specs.Option.{option_map}
-use Rattle.std.specs.List.{slice_get}
+use Rattle.std.specs.List.{slice_get, filter_map}
 use Rattle.words.specs.Layout.{bucket_of}
 use Rattle.words.specs.Points.{at}
 use Rattle.chains.specs.Counting.{how_many}
-use Rattle.chains.specs.Links.{cut}
+use Rattle.chains.specs.Orders.{Order, place_of}
 use Rattle.chains.specs.declared.chains.Chains.{Chains}
 use Rattle.chains.specs.declared.node.Body.{Body}
 use Rattle.chains.specs.declared.node.Found.{Found}
@@ -33,33 +33,25 @@ body_of c b = body_at c (node_of c b)
 abbrev pub block_of_node : Chains → ℕ → Option ℕ
 block_of_node c i = option_map (λ b. b.number) (owner (nodes_of c) i)
 
--- the nodes of the chain k, from its head on
-abbrev pub chain_of : Chains → ℕ → List ℕ
-chain_of c k = chain_from (link_at c.links) k
+-- the blocks of the bucket k in the order of their nodes, from the head of the chain on
+abbrev pub order : Chains → Order
+order c k = filter_map (block_of_node c) (chain_from (link_at c.links) k)
 
--- the chain k is l now, and every other is as it was
-abbrev pub ChainIs : Chains → ℕ → List ℕ → Chains → Type 0
-ChainIs c k l d = (j : ℕ) → j < 64 → chain_of d j ≡ at (chain_of c) k l j
-
--- a node was put at the head of the chain of the block b, unless the block had one
-abbrev pub AtHead : Chains → ℕ → Chains → Type 0
-AtHead c b d = MatchOption (body_of c b) (ChainIs c (bucket_of b) (node_of d b ∷ chain_of c (bucket_of b)) d) (λ _. chain_of d ≡ chain_of c)
-
--- the node of the block b was taken out of its chain, if the block had one
-abbrev pub TakenOut : Chains → ℕ → Chains → Type 0
-TakenOut c b d = MatchOption (body_of c b) (chain_of d ≡ chain_of c) (λ _. ChainIs c (bucket_of b) (cut (node_of c b) (chain_of c (bucket_of b))) d)
+-- the block b has no node, and so no place
+abbrev pub Absent : Chains → ℕ → Type 0
+Absent c b = (body_of c b ≡ None) × (place_of (order c) b ≡ None)
 
 -- how many nodes are on the chain of the bucket k: as many as blocks of that bucket have a node
 abbrev pub nodes_in : Chains → ℕ → ℕ
 nodes_in c k = how_many (λ b. is_some (body_of c b) && bucket_of b == k) (2 ^ 48)
 
--- the block's node was found: that many nodes of its chain were looked at, and it is the last of them
+-- the block's node was found: as many nodes were looked at as the block's place says, and so at most those of its chain
 pub record Finds (c : Chains) (b : ℕ) (f : Found) : Type 0 where
   pub node : node_of c b ≡ f.node
   pub block : block_of_node c f.node ≡ Some b
+  pub place : place_of (order c) b ≡ Some f.looked
   pub some : 1 ≤ f.looked
   pub most : f.looked ≤ nodes_in c (bucket_of b)
-  pub last : slice_get (chain_from (link_at c.links) (bucket_of b)) (f.looked - 1) ≡ Some f.node
 
 -- the block's node was found, and a place of its chain whose link leads to it
 pub record Leads (c : Chains) (b : ℕ) (w : Way) : Type 0 where
@@ -78,3 +70,7 @@ Writes c i y d = MatchOption (block_of_node c i) (body_of d ≡ body_of c) (λ b
 -- how many nodes are linked: exactly as many as there are blocks with one
 abbrev pub Nodes : Chains → ℕ → Type 0
 Nodes c n = n ≡ how_many (λ b. is_some (body_of c b)) (2 ^ 48)
+
+-- what an insertion of the block b refuses
+abbrev pub insert_refusals : Chains → ℕ → List (Type 0 × ℕ)
+insert_refusals c b = ((body_of c b ≡ None) × Nodes c 256, 7) ∷ []

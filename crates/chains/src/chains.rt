@@ -1,5 +1,5 @@
 // Blocks on nodes: 256 nodes in 64 chains, and those that are free in one more.
-ghost use Rattle.std.specs.Prelude.{◌≡◌, ℕ, ◌^◌, None, Some, MatchOption, MatchResult, OnOk, length, slice_index_or};
+ghost use Rattle.std.specs.Prelude.{◌≡◌, ℕ, ◌^◌, None, Some, is_some, MatchOption, MatchResult, OnOk, length, slice_index_or};
 ghost use Rattle.words.specs.Points.{at};
 ghost use Rattle.chains.specs.Contents.{paired};
 ghost use Rattle.chains.specs.Counting.{how_many};
@@ -51,11 +51,15 @@ fn free_links() -> [Option<u8>; 321]
 }
 
 impl Chains {
-    ghost use Rattle.chains.specs.Chains.{body_of, body_at, Leads, Finds, Puts, Writes, Nodes, chain_of, AtHead, TakenOut};
+    ghost use Rattle.chains.specs.Orders.{no_order, in_front, put_in, cut_out};
+    ghost use Rattle.chains.specs.Chains.{body_of, body_at, order, Absent, Leads, Finds, Puts, Writes, Nodes, insert_refusals};
+    ghost use Rattle.chains.specs.Faults.{no_node_number};
+    ghost use Rattle.words.specs.Refusals.{First, Accepted};
 
     // No block has a node.
     pub fn new() -> Chains
-        ensures { (b : ℕ) → body_of result b ≡ None }
+        ensures held { (b : ℕ) → body_of result b ≡ None }
+        ensures order { order result ≡ no_order }
     {
         Chains {
             links: free_links(),
@@ -75,12 +79,13 @@ impl Chains {
 
     // The node of the block.
     pub fn find(&self, block: Block) -> Option<Found>
-        ensures { MatchOption result (body_of self.now block.number ≡ None) (λ f. Finds self.now block.number f) }
+        ensures { MatchOption result (Absent self.now block.number) (λ f. Finds self.now block.number f) }
     {
         Some(self.way_to(block)?.found)
     }
 
     // What a node holds; none where it is free.
+    #[tactic(auto, using(crate::proofs::Pairs::body_there))]
     pub fn body(&self, node: u8) -> Option<Body>
         ensures { result ≡ body_at self.now node }
     {
@@ -90,7 +95,7 @@ impl Chains {
     // Writes what a node holds; one that is free stays so.
     pub fn replace(&mut self, node: u8, body: Body)
         ensures held { Writes self.old node body self.new }
-        ensures order { chain_of self.new ≡ chain_of self.old }
+        ensures order { order self.new ≡ order self.old }
     {
         let own = usize::from(node);
         if self.contents[own].body().is_some() {
@@ -99,12 +104,13 @@ impl Chains {
     }
 
     // Writes what is held of the block, on a new node where it has none.
-    #[tactic(auto, using(crate::proofs::Held::count_all, crate::proofs::Changes::all_linked))]
+    #[tactic(auto, using(crate::proofs::Held::count_all, crate::proofs::Held::found_held, crate::proofs::Changes::all_linked, crate::proofs::Changes::some_free))]
     pub fn insert(&mut self, block: Block, body: Body) -> Result<(), NoNode>
         ensures held { MatchResult result
-            (λ x. Puts self.old block.number (Some body) self.new)
-            (λ e. (body_of self.old block.number ≡ None) × Nodes self.old 256 × (self.new ≡ self.old)) }
-        ensures order { OnOk result (AtHead self.old block.number self.new) }
+            (λ _. Accepted (insert_refusals self.old block.number) × Puts self.old block.number (Some body) self.new)
+            (λ _. First (insert_refusals self.old block.number) no_node_number × (self.new ≡ self.old)) }
+        ensures order { OnOk result
+            (order self.new ≡ put_in (is_some (body_of self.old block.number)) (order self.old) block.number) }
     {
         if let Some(found) = self.find(block) {
             self.replace(found.node, body);
@@ -116,10 +122,11 @@ impl Chains {
     }
 
     // Takes the block's node out; what it held.
+    #[tactic(auto, using(crate::proofs::Orders::uncut))]
     pub fn remove(&mut self, block: Block) -> Option<Body>
         ensures answer { result ≡ body_of self.old block.number }
         ensures held { Puts self.old block.number None self.new }
-        ensures order { TakenOut self.old block.number self.new }
+        ensures order { order self.new ≡ cut_out (order self.old) block.number }
     {
         let way = self.way_to(block)?;
         let body = self.body(way.found.node);
@@ -129,7 +136,7 @@ impl Chains {
 
     // The block's node, with the place whose link leads to it.
     fn way_to(&self, block: Block) -> Option<Way>
-        ensures { MatchOption result (body_of self.now block.number ≡ None) (λ w. Leads self.now block.number w) }
+        ensures { MatchOption result (Absent self.now block.number) (λ w. Leads self.now block.number w) }
     {
         let mut place = HEADS + block.bucket();
         let mut looked = 0;
@@ -149,7 +156,7 @@ impl Chains {
         requires absent { body_of self.old block.number ≡ None }
         requires free { slice_index_or self.old.links 320 None ≡ Some node }
         ensures held { Puts self.old block.number (Some body) self.new }
-        ensures order { AtHead self.old block.number self.new }
+        ensures order { order self.new ≡ in_front (order self.old) block.number }
     {
         let own = usize::from(node);
         let head = HEADS + block.bucket();
@@ -167,7 +174,7 @@ impl Chains {
     fn unlink(&mut self, block: Block, way: Way)
         requires { Leads self.old block.number way }
         ensures held { Puts self.old block.number None self.new }
-        ensures order { TakenOut self.old block.number self.new }
+        ensures order { order self.new ≡ cut_out (order self.old) block.number }
     {
         let own = usize::from(way.found.node);
         let rest = self.links[own];

@@ -11,7 +11,7 @@ use Rattle.chains.proofs.Counts.{one, many_at}
 use Rattle.chains.proofs.Held.{at_map}
 use Rattle.blocks.specs.declared.blocks.Blocks.{Blocks}
 use Rattle.blocks.specs.declared.fault.NoRoom.{NoRoom}
-use Rattle.blocks.specs.Blocks.{held, Sets, Refuses}
+use Rattle.blocks.specs.Blocks.{held}
 use Rattle.blocks.proofs.Pages.{pages_most}
 use Rattle.table.specs.declared.table.PageTable.{PageTable}
 use Rattle.table.specs.Calls.{MappedPages}
@@ -54,10 +54,10 @@ same_table t s e f = over t.blocks t.pages e f t.counted
 
 module _ (s : PageTable) (p : Page) where
   -- the page was mapped, and is mapped to another translation, or the table stays as it was
-  pub replaced_count : (t u : Translation) (b : Blocks) → mapping s p.number ≡ Some t → (r : Result (Unit {0}) NoRoom)
-      → MatchResult r (λ _. Sets (held s.blocks) p.number (Some u) (held b)) (λ e. Refuses e (held s.blocks) p.number (Some u) × (b ≡ s.blocks)) → s.pages ≡ pages_of (held b)
-  replaced_count t u b m (Ok x) sets = let e = pages_at (mapping s) (held b) p (Some u) sets.held in let w = ap (λ y. one (is_some y)) m in let c = s.counted in omega arith
-  replaced_count t u b m (Err x) (_, same) = s.counted ∙ ap (λ d. pages_of (held d)) (sym same)
+  pub replaced_count : (A : Type 0) (F : NoRoom → Type 0) (t u : Translation) (b : Blocks) → mapping s p.number ≡ Some t → (r : Result (Unit {0}) NoRoom)
+      → MatchResult r (λ _. A × (held b ≡ at (held s.blocks) p.number (Some u))) (λ e. F e × (b ≡ s.blocks)) → s.pages ≡ pages_of (held b)
+  replaced_count A F t u b m (Ok x) (_, h) = let e = pages_at (mapping s) (held b) p (Some u) h in let w = ap (λ y. one (is_some y)) m in let c = s.counted in omega arith
+  replaced_count A F t u b m (Err x) (_, same) = s.counted ∙ ap (λ d. pages_of (held d)) (sym same)
 
   -- the page was not mapped, and is mapped now
   pub added_count : (u : Translation) (b : Blocks) → mapping s p.number ≡ None → held b ≡ at (held s.blocks) p.number (Some u) → (s.pages + 1 ≡ pages_of (held b)) × (s.pages + 1 ≤ 4096)

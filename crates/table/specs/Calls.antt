@@ -1,4 +1,4 @@
--- What the calls of a page table make of the map from pages to translations, and what they refuse.
+-- What the calls of a page table make of the map from pages to translations and of the order of blocks, and what they refuse.
 use Rattle.std.specs.Prelude.{◌≡◌, ℕ, ◌^◌, ◌<◌, List, [], ◌∷◌, Some, None}
 use Rattle.std.specs.Option.{option_map}
 use Rattle.words.specs.declared.translation.Translation.{Translation}
@@ -7,7 +7,8 @@ use Rattle.words.specs.Points.{at}
 use Rattle.words.specs.Reading.{translation}
 use Rattle.words.specs.Blocks.{Mapping, IsMapped}
 use Rattle.chains.specs.Counting.{Exactly}
-use Rattle.blocks.specs.Blocks.{UsedBlocks, RowedBlocks, NodesOut, RowsOut}
+use Rattle.chains.specs.Orders.{Order}
+use Rattle.blocks.specs.Blocks.{UsedBlocks, RowedBlocks, NodesOut, RowsOut, reordered}
 
 -- no page is mapped
 abbrev pub unmapped : Mapping
@@ -24,6 +25,13 @@ protected m p x = at m p (option_map (λ t. translation t.frame x) (m p))
 -- the page p is mapped to nothing
 abbrev pub released : Mapping → ℕ → Mapping
 released m p = at m p None
+
+-- the order after the page p was mapped to t, and after it was unmapped
+abbrev pub mapped_order : Mapping → ℕ → Translation → Order → Order
+mapped_order m p t o = reordered m (mapped m p t) (block_of p) o
+
+abbrev pub released_order : Mapping → ℕ → Order → Order
+released_order m p o = reordered m (released m p) (block_of p) o
 
 -- what is refused, in this order
 abbrev pub map_refusals : Mapping → ℕ → Translation → List (Type 0 × ℕ)

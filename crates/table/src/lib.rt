@@ -6,6 +6,6 @@ mod fault;
 mod table;
 
 pub use blocks::Walked;
-pub use events::{Call, Event, replay};
+pub use events::{TableCall, TableEvent, replay_table};
 pub use fault::{MapFault, NotMapped, ProtectFault};
-pub use table::{Census, PageTable};
+pub use table::{PageTable, TableCensus};

@@ -3,7 +3,9 @@
 
 #[cfg(test)]
 mod tests {
-    use table::{Call, Census, Event, MapFault, NotMapped, PageTable, ProtectFault, replay};
+    use table::{
+        MapFault, NotMapped, PageTable, ProtectFault, TableCall, TableCensus, TableEvent, replay_table,
+    };
     use words::{Page, Translation, Word};
 
     fn page(number: u64) -> Page {
@@ -18,8 +20,8 @@ mod tests {
         }
     }
 
-    fn census(nodes: u16, rows: u16, pages: u16) -> Census {
-        Census { nodes, rows, pages }
+    fn census(nodes: u16, rows: u16, pages: u16) -> TableCensus {
+        TableCensus { nodes, rows, pages }
     }
 
     // The form and the bits of a page's word, and how many nodes were looked at; zeros where the page is not mapped.
@@ -250,19 +252,19 @@ mod tests {
 
     #[test]
     fn calls_are_replayed(rt: HostRuntime) {
-        let event = |call: Call| Event {
+        let event = |call: TableCall| TableEvent {
             call,
             refused: false,
         };
         let mut events = [
-            event(Call::Map(page(0x41), to(0x1001, 3))),
-            event(Call::Map(page(0x41), to(0x1000, 3))),
-            event(Call::Unmap(page(0x42))),
-            event(Call::Protect(page(0x41), 1)),
-            event(Call::Walk(page(0x42))),
-            event(Call::Census),
+            event(TableCall::Map(page(0x41), to(0x1001, 3))),
+            event(TableCall::Map(page(0x41), to(0x1000, 3))),
+            event(TableCall::Unmap(page(0x42))),
+            event(TableCall::Protect(page(0x41), 1)),
+            event(TableCall::Walk(page(0x42))),
+            event(TableCall::Census),
         ];
-        let table = replay(&mut events);
+        let table = replay_table(&mut events);
         assert_eq!(rt; table.lookup(page(0x41)), Some(to(0x1001, 1)));
         let refused: [bool; 6] = [false, true, true, false, true, false];
         for i in 0..6usize {

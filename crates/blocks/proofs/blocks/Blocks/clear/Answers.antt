@@ -1,5 +1,6 @@
-use Rattle.blocks.proofs.Rooms.{cleared}
+use Rattle.blocks.specs.Blocks.{held}
+use Rattle.blocks.proofs.Rooms.{never_refused}
 use Rattle.blocks.proofs.blocks.Blocks.clear.Goals as goal
 
-pub returns : goal.returns
-returns c = cleared _ c.args.page.number _ _ c.set.result c.set.ensures
+pub unwrap-requires : goal.unwrap-requires
+unwrap-requires c = never_refused (held c.args.self.now) c.args.page.number _ _ c.set.result c.set.ensures.held

@@ -7,7 +7,7 @@ use Rattle.blocks.proofs.blocks.Blocks.new.Goals as goal
 
 pub invariant_of-result : goal.invariant_of-result
 invariant_of-result c =
-    let empty = c.new.ensures in
+    let empty = c.new.ensures.held in
     let rows = c.new-2.ensures in
     record {
       lent = λ i l. (let e = rows.each i l in let n : owners c.new.result i ≡ 0 = many_none (λ b. eqb (row_in (body_of c.new.result b)) i) (2 ^ 48) (λ b m. ap (λ y. eqb (row_in y) i) (empty b) ∙ ne_eqb 128 i (λ q. omega arith)) in omega arith);

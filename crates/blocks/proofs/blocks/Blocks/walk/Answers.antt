@@ -3,12 +3,12 @@ use Rattle.words.specs.Reading.{said}
 use Rattle.words.specs.Words.{form_of, bits_of}
 use Rattle.words.specs.Blocks.{page_word}
 use Rattle.blocks.specs.Rows.{row_pages}
-use Rattle.blocks.proofs.Looks.{walks_word, walks_row}
+use Rattle.blocks.proofs.Looks.{found_place, walks_word, walks_row}
 use Rattle.blocks.proofs.blocks.Blocks.walk.Goals.{in-Compact, in-Row}
 use Rattle.blocks.proofs.blocks.Blocks.walk.Goals as goal
 
-pub returns : goal.returns
-returns c =
+pub returns-clause-word : goal.returns-clause-word
+returns-clause-word c =
     let s = c.args.self.now in
     let p = c.args.page.number in
     let f = c.in_ok-found.found in
@@ -20,3 +20,11 @@ returns c =
       | in-Row w ↦ walks_row s p c.block.result.number f c.unwrap-body.result c.block.ensures c.in_ok-found.ensures has w.in-Row.row w.word.result v c.in_ok-read.field-0 w.in-Row.is w.word-is
           (w.word.ensures ∙ ap (λ o. page_word (row_pages s.rows.rows w.in-Row.row.number o)) w.offset.ensures) read
     ]
+
+pub returns-clause-place : goal.returns-clause-place
+returns-clause-place c =
+    let s = c.args.self.now in
+    let p = c.args.page.number in
+    let f = c.in_ok-found.found in
+    let has = sym c.body.ensures ∙ c.unwrap-body.ensures in
+    found_place s p c.block.result.number f c.unwrap-body.result c.block.ensures c.in_ok-found.ensures has

@@ -4,7 +4,8 @@ use Rattle.chains.specs.Contents.{Node, body_in}
 use Rattle.chains.specs.Nodes.{Sound, Single, Kept, link_at, block_at, node_for, is_linked, is_held}
 use Rattle.chains.specs.Counting.{how_many}
 use Rattle.chains.specs.declared.node.Content.TheVariants.{Free}
-use Rattle.chains.proofs.Fresh.{fresh_sound, fresh_single, fresh_kept, fresh_counted, fresh_held, fresh_body}
+use Rattle.chains.proofs.Fresh.{fresh_sound, fresh_single, fresh_kept, fresh_counted, fresh_held, fresh_body, fresh_order}
+use Rattle.chains.proofs.Orders.{order_in}
 use Rattle.chains.proofs.Pairs.{paired_replicate}
 use Rattle.chains.proofs.chains.Chains.new.Goals as goal
 
@@ -25,8 +26,14 @@ invariant_of-result c =
       held = omega arith;
     }
 
-pub returns : goal.returns
-returns c b =
+pub returns-clause-held : goal.returns-clause-held
+returns-clause-held c b =
     let n : Node = record { block = c.block.result; content = Free } in
     let ls = c.free_links.result in
     ap (λ ns. option_and_then body_in (slice_get ns (node_for (link_at ls) (block_at ns) b))) (paired_replicate 256 c.block.result Free) ∙ fresh_body ls c.free_links.ensures n refl b
+
+pub returns-clause-order : goal.returns-clause-order
+returns-clause-order c =
+    let n : Node = record { block = c.block.result; content = Free } in
+    let ls = c.free_links.result in
+    ap (order_in ls) (paired_replicate 256 c.block.result Free) ∙ fresh_order ls c.free_links.ensures n refl

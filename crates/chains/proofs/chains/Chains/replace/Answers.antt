@@ -2,7 +2,7 @@ use Rattle.std.proofs.Common.{length, sym, ap, ◌∙◌, is_some, arith, length
 use Rattle.words.specs.declared.address.Block.{Block}
 use Rattle.chains.specs.Chains.{nodes_of}
 use Rattle.chains.specs.Contents.{Node, body_in}
-use Rattle.chains.proofs.Changes.{replaced_sound, replaced_single, replaced_kept, replaced_counted, replaced_held, replaced_puts, free_writes}
+use Rattle.chains.proofs.Changes.{replaced_sound, replaced_single, replaced_kept, replaced_counted, replaced_held, replaced_puts, replaced_order, free_writes}
 use Rattle.chains.proofs.Pairs.{paired_content, paired_get}
 use Rattle.chains.proofs.chains.Chains.replace.Goals as goal
 
@@ -49,3 +49,15 @@ returns-else-is_some-clause-held c =
     let d : Node = record { block = k; content = x } in
     let e = c.from-own.ensures in
     free_writes s i d c.args.body c.args.node e (omega arith) (ap (λ n. is_some (body_in n)) (paired_get s.blocks s.contents i k x d (omega arith) (omega arith)) ∙ ap is_some (sym c.body.ensures) ∙ sym c.is_some.ensures ∙ c.if-is_some.false)
+
+pub returns-then-is_some-clause-order : goal.returns-then-is_some-clause-order
+returns-then-is_some-clause-order c =
+    let s = c.args.self.now in
+    let i = c.from-own.result in
+    let k : Block = record { number = 0; within = omega arith } in
+    let x = c.index-self-own.result in
+    let d : Node = record { block = k; content = x } in
+    let e = c.from-own.ensures in
+    let there = paired_get s.blocks s.contents i k x d (omega arith) (omega arith) in
+    replaced_order s i d _ c.args.body (omega arith) (sym (ap (λ (n : Node). n.block) there)) c.from.ensures
+    (ap (λ n. is_some (body_in n)) there ∙ ap is_some (sym c.body.ensures) ∙ sym c.is_some.ensures ∙ c.if-is_some.true) _ (paired_content s.blocks s.contents i k c.from.result (omega arith))

@@ -1,14 +1,14 @@
-use Rattle.std.proofs.Common.{◌≡◌, ◌+◌, ◌-◌, ◌<◌, eqb, length, get_or, sym, ap, ◌∙◌, subst, inr, arith}
+use Rattle.std.proofs.Common.{◌+◌, ◌<◌, eqb, length, get_or, sym, ap, ◌∙◌, subst, inr, arith}
 use Rattle.words.specs.declared.address.Block.{Block}
 use Rattle.words.specs.Layout.{bucket_of}
 use Rattle.chains.specs.declared.node.Content.TheVariants.{Free}
 use Rattle.chains.specs.Contents.{Node}
 use Rattle.chains.proofs.Pairs.{paired_get}
 use Rattle.chains.specs.Links.{walk}
-use Rattle.std.specs.List.{slice_get}
-use Rattle.chains.specs.Nodes.{link_number, chain_from}
-use Rattle.chains.proofs.Held.{next_in, home_in, Search, after, at_it, is_it, goes_past, ends, shorter, home, linked_block}
+use Rattle.chains.specs.Nodes.{link_number}
+use Rattle.chains.proofs.Held.{next_in, home_in, Search, after, at_it, is_it, goes_past, ends, shorter, home, linked_block, no_node}
 use Rattle.chains.proofs.Buckets.{chain_count}
+use Rattle.chains.proofs.Orders.{placed, placeless}
 use Rattle.chains.proofs.Steps.{length_most}
 use Rattle.chains.proofs.chains.Chains.way_to.Goals as goal
 
@@ -35,15 +35,14 @@ returns-then-eq c =
     let there = ap (λ (n : Node). n.block) (paired_get s.blocks s.contents i k Free d (omega arith) (omega arith)) in
     let own = is_it s b i d at_i small (ap (λ (x : Block). eqb x.number b) there ∙ ap (λ j. eqb (get_or s.blocks j k).number b) (sym c.from.ensures) ∙ sym c.eq.ensures ∙ c.if-eq.true) in
     let (less, last, rest) = after s b c.loop-place.looked i at_i small (q.passed ∙ ap (walk (next_in s) 256) (ap link_number c.in-Some.is)) in
-    let one : c.loop-place.looked + 1 - 1 ≡ c.loop-place.looked = omega arith in
     let most = chain_count s (bucket_of b) (omega arith) in
     record {
       found = record {
         node = at_it s b i at_i small own;
         block = linked_block s b i at_i small own;
+        place = placed s b c.loop-place.looked i last own;
         some = omega arith;
         most = omega arith;
-        last = ap (slice_get (chain_from (next_in s) (bucket_of b))) one ∙ last;
       };
       place = q.place;
       link = c.in-Some.is;
@@ -81,4 +80,9 @@ loop-place-preserved c =
     }
 
 pub returns : goal.returns
-returns c = let e = ap link_number c.in_default.is in ends c.args.self.now c.args.block.number (next_in c.args.self.now c.loop-place.place) c.loop-place.invariant.search (omega arith)
+returns c =
+    let s = c.args.self.now in
+    let b = c.args.block.number in
+    let e = ap link_number c.in_default.is in
+    let none = ends s b (next_in s c.loop-place.place) c.loop-place.invariant.search (omega arith) in
+    (none, placeless s b (no_node s b none))

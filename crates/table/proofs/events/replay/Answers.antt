@@ -1,9 +1,0 @@
-use Rattle.std.proofs.Common.{refl, arith}
-use Rattle.table.specs.Table.{mapping}
-use Rattle.table.proofs.Fed.{made_more}
-use Rattle.table.proofs.events.replay.Goals as goal
-
-pub loop-event-preserved : goal.loop-event-preserved
-loop-event-preserved c =
-    made_more c.args.events.now c.loop-event.events c.loop-event.event-index (mapping c.loop-event.table) (mapping c.perform-event.new.self) c.event-item.result _
-    (let a = c.loop-event.auto.events in let b = c.loop-event-test.true in omega arith) refl c.perform-event.ensures c.loop-event.invariant
