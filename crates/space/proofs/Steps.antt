@@ -57,7 +57,8 @@ use Rattle.law.proofs.Points.{some_none, same_some}
 use Rattle.law.proofs.Steps.{is_none, fill_at, stays}
 use Rattle.space.specs.declared.fill.Fill.{Fill}
 use Rattle.space.specs.declared.space.Space.{Space}
-use Rattle.space.specs.Space.{seen, page_map, begun as begun_event, Lawful}
+use Rattle.space.specs.Kept.{kept_map}
+use Rattle.space.specs.Space.{seen, page_map, begun as begun_event, Lawful, OnlyTlb}
 
 -- an error of which something is known
 pub err_only : {T E : Type 0} (P : Result T E → Type 0) (G : E → Type 0) (r : Result T E) → IsErrAnd r G → ((e : E) → G e → P (Err e)) → P r
@@ -65,7 +66,7 @@ err_only P G (Ok x) a f = absurd a
 err_only P G (Err e) a f = f e a
 
 pub on_err : {T E : Type 0} (P : T → Type 0) (Q : E → Type 0) (r : Result T E) → IsErr r → ((e : E) → Q e) → MatchResult r P Q
-on_err P Q (Ok x) a f = absurd a
+on_err P Q (Ok x) a f = absurd (both_ways false refl a)
 on_err P Q (Err e) a f = f e
 
 -- an optional fill that was compared
@@ -216,10 +217,6 @@ module _ {A B : Type 0} (t : TlbMeaning A) (k : FramesMeaning B) where
     good : BadAccess x → ⊥
     good bad = bad c number
 
-    pub untouched : (r : Result Touched TouchFault) → IsErrAnd r (λ e. e ≡ touch.NotMapped) → h p ≡ None → ProbedInVain t s.tlb p u.tlb → Did m m s u (event.Touch a x r)
-    untouched r is none probed = err_only (λ r. Did m m s u (event.Touch a x r)) (λ e. e ≡ touch.NotMapped) r is (λ e i.
-        subst (λ f. Did m m s u (event.Touch a x (Err f))) (sym i) (record { right = rw (sym page) (record { first = (good, none); probed = probed; same_frames = frames }); becomes = refl }))
-
     module _ (z : Translation) (q : Mark) (looked : LookedUp t h q s.tlb p z u.tlb) where
       pub denied : allowed z.attributes c ≡ false → Did m m s u (event.Touch a x (Err touch.Denied))
       denied lack = record {
@@ -278,6 +275,11 @@ module _ {A B : Type 0} {t : tlb.Ghosts A} {k : allocator.Ghosts B} where
     accounts = λ start a. subst (λ n. Accounted k.meaning start n u.frames) (sym d.becomes)
         ((stays t.meaning k.meaning small (page_map s) (seen s) (seen u) e s.sound d.right).1 start (record { sound = s.sound; accounted = a })).accounted;
   }
+
+  -- only the TLB was called
+  pub looked_lawful : (s u : Space A B t k) (e : Event) → Small t.meaning k.meaning → OnlyTlb s u → Did t.meaning k.meaning (page_map s) (page_map s) (seen s) (seen u) e → Lawful s e u
+  looked_lawful s u e small (table, fills, frames) d =
+      lawful s u e small (record { right = d.right; becomes = ap₂ kept_map table fills ∙ d.becomes })
 
   -- begin was refused for want of a frame
   pub frameless : (s u : Space A B t k) (a : ℕ) (r : Result Fill BeginFault) → Small t.meaning k.meaning → IsErrAnd r (λ f. f ≡ begin.NoFrame)

@@ -8,7 +8,7 @@ use Rattle.space.proofs.space.Space.release.Goals as goal
 
 pub returns-in_err-translation-clause-leaves : goal.returns-in_err-translation-clause-leaves
 returns-in_err-translation-clause-leaves g c =
-    on_err _ _ c.from_residual.result c.from_residual.ensures.0 (λ e. record { same_table = c.in_err-translation.ensures.1; same_fills = refl; same_tlb = refl; same_frames = refl })
+    on_err _ _ c.from_residual.result c.from_residual.ensures.0 (λ e. record { same_table = c.in_err-translation.ensures.held.1; same_fills = refl; same_tlb = refl; same_frames = refl })
 
 pub invariant_of-self-2 : goal.invariant_of-self-2
 invariant_of-self-2 g c =
@@ -17,7 +17,7 @@ invariant_of-self-2 g c =
     let k = g.F.FrameAllocator.meaning in
     let x = c.in_ok-translation.translation in
     let p = c.of_address-page.result.number in
-    let (here, maps) = c.in_ok-translation.ensures in
+    let (here, maps) = c.in_ok-translation.ensures.held in
     let out = s.sound.is_out x.frame p (ap (λ o. frame_of o (fill_of s.fills p)) here) in
     record {
       sound = sound_after g.T.Tlb.meaning k (page_map s) _ (seen s) _ _ (λ b n o. f.small b n (f.within b n o)) s.sound
@@ -31,7 +31,7 @@ returns-in_err-free-clause-law g c =
     let s = c.args.self.now in
     let x = c.in_ok-translation.translation in
     let p = c.of_address-page.result.number in
-    let (here, _) = c.in_ok-translation.ensures in
+    let (here, _) = c.in_ok-translation.ensures.held in
     let out = s.sound.is_out x.frame p (ap (λ o. frame_of o (fill_of s.fills p)) here) in
     absurd (not_freed g.T.Tlb.meaning g.F.FrameAllocator.meaning s.frames c.free.new.self x.frame c.in_err-free.field-0.0 c.in_err-free.ensures.gives out)
 
@@ -40,7 +40,7 @@ returns-in_err-free-clause-leaves g c =
     let s = c.args.self.now in
     let x = c.in_ok-translation.translation in
     let p = c.of_address-page.result.number in
-    let (here, _) = c.in_ok-translation.ensures in
+    let (here, _) = c.in_ok-translation.ensures.held in
     let out = s.sound.is_out x.frame p (ap (λ o. frame_of o (fill_of s.fills p)) here) in
     absurd (not_freed g.T.Tlb.meaning g.F.FrameAllocator.meaning s.frames c.free.new.self x.frame c.in_err-free.field-0.0 c.in_err-free.ensures.gives out)
 
@@ -51,7 +51,7 @@ returns-clause-law g c =
     let k = g.F.FrameAllocator.meaning in
     let x = c.in_ok-translation.translation in
     let p = c.of_address-page.result.number in
-    let (here, maps) = c.in_ok-translation.ensures in
+    let (here, maps) = c.in_ok-translation.ensures.held in
     let e = c.in_ok-free.ensures in
     lawful s _ _ (λ b n o. f.small b n (f.within b n o))
     (released_one g.T.Tlb.meaning k (mapping s.table) (mapping c.unmap.new.self) (fill_of s.fills) (seen s) (record { tlb = c.purge.new.self; frames = c.free.new.self }) c.args.address p x c.of_address-page.ensures here maps

@@ -22,11 +22,11 @@ returns-in_err-map-clause-law g c =
     let here = sym c.find.ensures ∙ found c.find.result c.args.underway c.ne.result c.ne.ensures c.if-ne.false in
     lawful s _ _ (λ b n out. f.small b n (f.within b n out))
     (unsettled g.T.Tlb.meaning g.F.FrameAllocator.meaning (mapping s.table) (mapping c.map.new.self) (fill_of s.fills) (seen s) c.args.page c.args.underway c.args.attributes _ c.in_err-map.field-0.0 c.from_residual.result
-    (s.sound.waits c.args.underway c.args.page.number here) c.in_err-map.ensures.0 refl refl here c.from_residual.ensures.1 (ap mapping c.in_err-map.ensures.1))
+    (s.sound.waits c.args.underway c.args.page.number here) c.in_err-map.ensures.held.0 refl refl here c.from_residual.ensures.1 (ap mapping c.in_err-map.ensures.held.1))
 
 pub returns-in_err-map-clause-leaves : goal.returns-in_err-map-clause-leaves
 returns-in_err-map-clause-leaves g c =
-    on_err _ _ c.from_residual.result c.from_residual.ensures.0 (λ e. record { same_table = c.in_err-map.ensures.1; same_fills = refl; same_tlb = refl; same_frames = refl })
+    on_err _ _ c.from_residual.result c.from_residual.ensures.0 (λ e. record { same_table = c.in_err-map.ensures.held.1; same_fills = refl; same_tlb = refl; same_frames = refl })
 
 pub invariant_of-self-2 : goal.invariant_of-self-2
 invariant_of-self-2 g c =
@@ -37,7 +37,7 @@ invariant_of-self-2 g c =
     record {
       sound = sound_after g.T.Tlb.meaning g.F.FrameAllocator.meaning (page_map s) _ (seen s) (seen s) _ (λ b n out. f.small b n (f.within b n out)) s.sound
           (settled g.T.Tlb.meaning g.F.FrameAllocator.meaning (mapping s.table) (mapping c.map.new.self) (fill_of s.fills) (fill_of c.remove.new.self) (seen s) c.args.page c.args.underway c.args.attributes _
-          c.in_ok-map.ensures.0 refl refl here c.in_ok-map.ensures.1 gone.1);
+          c.in_ok-map.ensures.held.0 refl refl here c.in_ok-map.ensures.held.1 gone.1);
     }
 
 pub returns-in_err-remove-clause-law : goal.returns-in_err-remove-clause-law
@@ -57,4 +57,4 @@ returns-clause-law g c =
     let here = sym c.find.ensures ∙ found c.find.result c.args.underway c.ne.result c.ne.ensures c.if-ne.false in
     lawful s _ _ (λ b n out. f.small b n (f.within b n out))
     (settled g.T.Tlb.meaning g.F.FrameAllocator.meaning (mapping s.table) (mapping c.map.new.self) (fill_of s.fills) (fill_of c.remove.new.self) (seen s) c.args.page c.args.underway c.args.attributes _
-    c.in_ok-map.ensures.0 refl refl here c.in_ok-map.ensures.1 c.in_ok-remove.ensures.1)
+    c.in_ok-map.ensures.held.0 refl refl here c.in_ok-map.ensures.held.1 c.in_ok-remove.ensures.1)
