@@ -1,6 +1,5 @@
 // Why a page is not fetched.
-use fills::NoFill;
-use space::{BeginFault, SettleFault};
+use space::{AbandonFault, BeginFault, SettleFault};
 use thiserror::Error;
 
 #[derive(Clone, Copy, PartialEq, Eq, Debug, Error)]
@@ -10,7 +9,7 @@ pub enum FetchFault {
     #[error("{0}")]
     Settle(#[from] SettleFault),
     #[error("{0}")]
-    Abandon(#[from] NoFill),
+    Abandon(#[from] AbandonFault),
 }
 
 // The disk cannot give the contents of a page.

@@ -155,7 +155,7 @@ fn touch(
         Ok(touched) => {
             let mark = match touched.mark {
                 Mark::Hit => "hit",
-                Mark::Walked => "walked",
+                Mark::Missed => "missed",
             };
             println!(rt;
                 "touch {address:#x} to {to}: {:#x}, {mark}",

@@ -59,7 +59,10 @@ impl Fill {
     }
 
     // Gives the frame back; the frame. The fill is spent in either case.
-    pub fn abandon<T: Tlb, F: FrameAllocator>(self, space: &mut Space<T, F>) -> Result<u32, AbandonFault>
+    pub fn abandon<T: Tlb, F: FrameAllocator>(
+        self,
+        space: &mut Space<T, F>,
+    ) -> Result<u32, AbandonFault>
         ensures law { Lawful space.old (abandoned self result) space.new }
         ensures leaves { AbandonLeaves space.old result space.new }
     {

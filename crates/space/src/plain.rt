@@ -9,7 +9,9 @@ use crate::fill::Fill;
 use crate::space::Space;
 use fills::Underway;
 use frames::FrameAllocator;
-use law::{AbandonFault, BeginFault, Call, Census, Event, ReleaseFault, SettleFault, TouchFault, Touched};
+use law::{
+    AbandonFault, BeginFault, Call, Census, Event, ReleaseFault, SettleFault, TouchFault, Touched,
+};
 use table::{NotMapped, ProtectFault, Walked};
 use tlb::Tlb;
 use words::{Page, Translation};

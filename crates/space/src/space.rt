@@ -90,9 +90,10 @@ impl<T: Tlb, F: FrameAllocator> Space<T, F> {
         ensures law { Lawful self.old (event.Abandon page underway result) self.new }
         ensures leaves { AbandonLeaves self.old result self.new }
     {
+        let frame = underway.frame;
         self.fills.remove(page, underway)?;
-        self.frames.free(underway.frame)?;
-        Ok(underway.frame)
+        self.frames.free(frame)?;
+        Ok(frame)
     }
 
     // Unmaps a page and gives its frame back; what it was mapped to.

@@ -1,2 +1,4 @@
 pub mod OnePair
 pub mod NoFrames
+pub mod CountedLoads
+pub mod CountedRefusals

@@ -1,6 +1,8 @@
-// Examples of address spaces, with a TLB and an allocator of their own beside those of the repository.
+// Examples of address spaces, with TLBs and allocators of their own beside those of the repository.
 #![tactic(auto)]
 
+mod counted_loads;
+mod counted_refusals;
 mod no_frames;
 mod one_pair;
 #[cfg(test)]
@@ -12,5 +14,7 @@ mod steps;
 #[cfg(test)]
 mod tests;
 
+pub use counted_loads::CountedLoads;
+pub use counted_refusals::CountedRefusals;
 pub use no_frames::NoFrames;
 pub use one_pair::OnePairTlb;

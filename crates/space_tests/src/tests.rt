@@ -1,4 +1,6 @@
 // Examples of the eight calls on pages that come and go.
+use crate::counted_loads::CountedLoads;
+use crate::counted_refusals::CountedRefusals;
 use crate::one_pair::OnePairTlb;
 use crate::steps::{
     ADDRESS, abandon, begin, census, free_list, map, one_page_first, partial_first, protect,
@@ -49,13 +51,13 @@ fn is_filled<T: Tlb, F: FrameAllocator>(rt: &impl Abort, space: &mut Space<T, F>
 
 fn is_used<T: Tlb, F: FrameAllocator>(rt: &impl Abort, space: &mut Space<T, F>, first: First) {
     let start = u64::from(first.frame) * 4096;
-    assert_eq!(rt; touch(space, ADDRESS, 1), Ok((start + 0x34, Mark::Walked)));
+    assert_eq!(rt; touch(space, ADDRESS, 1), Ok((start + 0x34, Mark::Missed)));
     assert_eq!(rt; touch(space, 0x41FFF, 2), Ok((start + 0xFFF, Mark::Hit)));
     assert_eq!(rt; touch(space, ADDRESS, 4), Err(11));
     assert_eq!(rt; protect(space, 0x41000, 5), Ok(3));
     assert_eq!(rt;
         touch(space, ADDRESS, 4),
-        Ok((start + 0x34, Mark::Walked)),
+        Ok((start + 0x34, Mark::Missed)),
         "purged"
     );
     assert_eq!(rt; touch(space, ADDRESS, 1), Ok((start + 0x34, Mark::Hit)));
@@ -73,7 +75,7 @@ fn is_freed<T: Tlb, F: FrameAllocator>(rt: &impl Abort, space: &mut Space<T, F>,
     assert_eq!(rt; map(space, ADDRESS, 3), Ok(first.frame), "again");
     assert_eq!(rt;
         touch(space, ADDRESS, 1),
-        Ok((u64::from(first.frame) * 4096 + 0x34, Mark::Walked))
+        Ok((u64::from(first.frame) * 4096 + 0x34, Mark::Missed))
     );
 }
 
@@ -103,6 +105,22 @@ fn a_page_is_filled_used_and_freed_on_a_reservation(rt: HostRuntime) {
     lives(&rt, PartialSubblockTlb::new(), reservation(), PLACED);
     lives(&rt, partial_first(), reservation(), PLACED);
     lives(&rt, OnePairTlb::new(), reservation(), PLACED);
+}
+
+#[test]
+fn a_page_is_filled_used_and_freed_where_parts_count(rt: HostRuntime) {
+    lives(
+        &rt,
+        CountedLoads {
+            tlb: OnePageTlb::new(),
+            loads: 0,
+        },
+        CountedRefusals {
+            frames: reservation(),
+            refusals: 0,
+        },
+        PLACED,
+    );
 }
 
 // With the reservation from 16 * group on.
@@ -139,7 +157,7 @@ fn an_address_becomes_a_physical_address(rt: HostRuntime) {
         assert_eq!(rt; walk(&space, place.address), Ok((1, place.bits, 1)));
         assert_eq!(rt;
             touch(&mut space, place.address, 1),
-            Ok((place.physical, Mark::Walked))
+            Ok((place.physical, Mark::Missed))
         );
         assert_eq!(rt;
             touch(&mut space, place.address, 1),
@@ -179,14 +197,14 @@ fn keeps_its_neighbour<T: Tlb>(rt: &impl Abort, space: &mut Space<T, Reservation
 
 #[test]
 fn a_tlb_hits_what_it_has(rt: HostRuntime) {
-    let (hit, walked) = (Mark::Hit, Mark::Walked);
-    marks(&rt, OnePageTlb::new(), [walked, walked, hit, hit]);
-    marks(&rt, PartialSubblockTlb::new(), [walked, hit, hit, hit]);
-    marks(&rt, one_page_first(), [walked, hit, hit, hit]);
-    marks(&rt, partial_first(), [walked, hit, hit, hit]);
-    marks(&rt, OnePairTlb::new(), [walked, walked, walked, hit]);
+    let (hit, missed) = (Mark::Hit, Mark::Missed);
+    marks(&rt, OnePageTlb::new(), [missed, missed, hit, hit]);
+    marks(&rt, PartialSubblockTlb::new(), [missed, hit, hit, hit]);
+    marks(&rt, one_page_first(), [missed, hit, hit, hit]);
+    marks(&rt, partial_first(), [missed, hit, hit, hit]);
+    marks(&rt, OnePairTlb::new(), [missed, missed, missed, hit]);
     let small = TwoLevelTlb::new(OnePairTlb::new(), OnePageTlb::new());
-    marks(&rt, small, [walked, walked, hit, hit]);
+    marks(&rt, small, [missed, missed, hit, hit]);
 }
 
 // The TLB comes with a pair of the page, which no space has made.
@@ -201,7 +219,7 @@ fn is_flushed<T: Tlb + Drop>(rt: &impl Abort, tlb: T) -> Result<(), Fail> {
     assert_eq!(rt; map(&mut space, ADDRESS, 1), Ok(0x1001));
     assert_eq!(rt;
         touch(&mut space, ADDRESS, 1),
-        Ok((16_781_364, Mark::Walked))
+        Ok((16_781_364, Mark::Missed))
     );
     Ok(())
 }

@@ -55,8 +55,7 @@ returns g c =
     let t = g.T.Tlb.meaning in
     let k = g.F.FrameAllocator.meaning in
     let w = c.in_ok-word.field-0 in
-    let e = c.in_default.ensures in
-    (
+    let e = c.in_default.ensures in (
       (refl, refl, refl),
       filled t k (mapping s.table) s.tlb c.probe.new.self c.load.new.self c.args.page.number w (record { page = c.args.page; word = w.word }) c.in_ok-translation.translation refl refl c.in_ok-word.ensures.word
           (sym (walk_says (mapping s.table) c.args.page.number w c.in_ok-word.ensures.word) ∙ ap (said (form_of w.word) (bits_of w.word)) (sym c.offset.ensures) ∙ sym c.read.ensures ∙ c.in_ok-translation.ensures.ok_part)
