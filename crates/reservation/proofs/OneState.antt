@@ -3,7 +3,7 @@ use Rattle.std.proofs.Common.{◌≡◌, ℕ, zero, suc, ◌+◌, ◌/◌, ◌%�
 use mathlib.Core.Path.{fun_ext}
 use native.Mathlib.Bridge.{le_prop}
 use Rattle.std.proofs.lemmas.Bool.{both_ways, eqb-true, eqb-false, ne_eqb, not_from_false, and_from, and_parts, ltb-true, cases_Bool, cases_eq, cases_order}
-use Rattle.words.specs.Layout.{bit, block_of, offset_of}
+use Rattle.words.specs.Layout.{bit, block_of}
 use Rattle.frames.specs.declared.fault.AllocateFault.{AllocateFault}
 use Rattle.frames.specs.declared.fault.AllocateFault.TheVariants.{AllOut}
 use Rattle.frames.specs.declared.fault.FreeFault.{FreeFault}

@@ -1,5 +1,5 @@
 -- One call more on which an allocator and its model agree, and one on which they do not.
-use Rattle.std.proofs.Common.{◌≡◌, ℕ, ◌+◌, List, [], ◌∷◌, ◌++◌, MatchResult, Result, Ok, Err, length, sym, ap, ◌∙◌, subst}
+use Rattle.std.proofs.Common.{◌≡◌, ◌+◌, List, [], MatchResult, Result, Ok, Err, length, sym, ap, ◌∙◌, subst}
 use Rattle.std.proofs.lemmas.List.{length_push}
 use Rattle.frames.specs.Meaning.{FramesMeaning}
 use Rattle.reservation_compare.specs.declared.calls.Call.{Call}

@@ -1,6 +1,5 @@
 -- The model of groups: which frames are out. Its steps are its code, and what the program compares.
-use Rattle.std.specs.Prelude.{◌≡◌, ℕ, ◌-◌, ◌/◌, ◌%◌, ◌&&◌, Bool, true, false, List, [], nat_le, slice_index_or, All, replicate}
-use Rattle.words.specs.Points.{at}
+use Rattle.std.specs.Prelude.{◌≡◌, ℕ, ◌-◌, ◌/◌, ◌%◌, ◌&&◌, Bool, false, List, [], nat_le, slice_index_or, All}
 use Rattle.reservation_compare.specs.declared.group_model.GroupModel.{GroupModel}
 use Rattle.reservation_compare.specs.declared.group_model.GroupState.{GroupState}
 use Rattle.reservation_compare.specs.declared.group_model.Use.TheVariants.{Broken}

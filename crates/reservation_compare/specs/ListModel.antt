@@ -1,6 +1,5 @@
 -- The free list as the queue of the frames that are in: its head goes out, and what comes in is its head.
-use Rattle.std.specs.Prelude.{◌≡◌, ℕ, ◌&&◌, not, Bool, List, [], ◌∷◌, take, drop, nat_le, nat_lt}
-use Rattle.reservation_compare.specs.declared.event.Event.TheVariants.{Head, AllOut}
+use Rattle.std.specs.Prelude.{◌≡◌, ◌&&◌, not, ◌∷◌, take, drop, nat_le, nat_lt}
 use Rattle.reservation_compare.specs.declared.list_model.ListModel.{ListModel}
 use Rattle.reservation_compare.specs.Models.{ModelMeaning, listed}
 

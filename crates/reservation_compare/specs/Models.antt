@@ -1,5 +1,5 @@
 -- What a model of a frame allocator says before the allocator is asked, and what it is afterwards.
-use Rattle.std.specs.Prelude.{◌≡◌, ℕ, ◌-◌, ◌/◌, ◌%◌, Bool, true, false, not, ◌&&◌, ◌==◌, List, take, drop, nat_le, nat_lt, slice_index_or}
+use Rattle.std.specs.Prelude.{ℕ, Bool, ◌==◌, List}
 use Rattle.std.specs.List.{list_any}
 use Rattle.reservation_compare.specs.declared.event.Event.{Event}
 

@@ -1,4 +1,4 @@
-use Rattle.std.proofs.Common.{◌+◌, length, rules, arith, sym}
+use Rattle.std.proofs.Common.{rules, arith}
 use Rattle.reservation_compare.specs.Agreement.{Noted, Stopped, FirstDiffers}
 use Rattle.reservation_compare.proofs.Agreeing.{none_yet, one_more, first_stop, at_ok, at_err, as_err}
 use Rattle.reservation_compare.proofs.compare.compare.Goals as goal
