@@ -15,7 +15,7 @@ use Rattle.reservation.specs.declared.reservation.ReservationAllocator.{Reservat
 use Rattle.reservation.specs.Ages.{waits, Oldest}
 use Rattle.reservation.specs.Groups.{block_use, nth_group, is_open, is_broken, has_in, waits_in}
 use Rattle.reservation.specs.Index.{in_bucket}
-use Rattle.reservation.specs.Reservation.{NewReservation, group_of, group_at, offset_at, group_stock, group_out, NoGroup, NoOpen, LowestOpen, NoSpare, NoneIn, OnlyFor, Longest, Unplaced, Rule, Chosen}
+use Rattle.reservation.specs.Reservation.{NewReservation, group_of, group_at, offset_at, group_stock, group_out, NoGroup, NoOpen, LowestOpen, NoSpare, NoneIn, OnlyFor, Longest, NoOwn, Rule, Chosen}
 use Rattle.reservation.specs.Sets.{has, FirstFrom, NoneFrom}
 use Rattle.reservation.proofs.Members.{Tells}
 use Rattle.reservation.proofs.Usages.{both_for, not_listed, cases_map, cases_found, by_test}
@@ -96,10 +96,10 @@ oldest_found s o h = (
 -- the group of a page's block gives the frame at the page's offset, or has it out
 pub kept_chosen : (s : ReservationAllocator) (p b g : ℕ) (out : Bool) (c : Choice) (o : Option Choice) → o ≡ then_some (not out) c → OnlyFor s b g → b ≡ block_of p →
     c.step ≡ Kept → c.spot.group ≡ g → c.spot.offset.number ≡ offset_of p → out ≡ bit (group_of s g).out.bits c.spot.offset.number →
-    MatchOption o (Unplaced s p) (λ x. Chosen s p x)
+    MatchOption o (NoOwn s p) (λ x. Chosen s p x)
 kept_chosen s p b g out c o given only own step group offset read =
     let here : block_use (block_of p) (group_of s g).usage ≡ true = ap (λ x. block_use x (group_of s g).usage) (sym own) ∙ only.here in
-    by_test o (not out) c (Unplaced s p) (Chosen s p) given
+    by_test o (not out) c (NoOwn s p) (Chosen s p) given
     (λ is_out. record {
       kept = λ h used. ap (λ x. bit (group_of s x).out.bits (offset_of p)) (only.only h (ap (λ x. block_use x (group_of s h).usage) own ∙ used))
           ∙ ap (bit (group_of s g).out.bits) (sym offset) ∙ sym read ∙ not-false out is_out;

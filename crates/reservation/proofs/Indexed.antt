@@ -7,7 +7,7 @@ use Rattle.reservation.specs.declared.group.Usage.{Usage}
 use Rattle.reservation.specs.Groups.{bucket_use}
 use Rattle.reservation.specs.Index.{nth_has, put_in}
 use Rattle.reservation.specs.Sets.{has}
-use Rattle.reservation.proofs.Places.{at_here, at_there}
+use Rattle.reservation.proofs.Ranks.{at_here, at_there}
 
 pub nth_get : (ss : List (BitSet 4)) (i : ℕ) (d : BitSet 4) → i < length ss → nth_has ss i ≡ has (get_or ss i d)
 nth_get [] i d l = absurd (omega arith)
@@ -31,7 +31,7 @@ nth_other (x ∷ ss) zero s (suc h) ne = refl
 nth_other (x ∷ ss) (suc i) s zero ne = refl
 nth_other (x ∷ ss) (suc i) s (suc h) ne = nth_other ss i s h (λ e. ne (ap suc e))
 
--- the set at the place i, with a number in or out
+-- the set number i, with a number in or out
 pub put_nth : (ss : List (BitSet 4)) (i g : ℕ) (on : Bool) (d t : BitSet 4) → i < length ss → has t ≡ at (has (get_or ss i d)) g on → (h k : ℕ) → nth_has (set ss i t) h k ≡ put_in (eqb i h) (nth_has ss h) g on k
 put_nth ss i g on d t l f h k = ⊎_elim
     (λ q. ap (λ x. nth_has (set ss i t) x k) (sym q) ∙ ap (λ p. p k) (nth_same ss i t l ∙ f ∙ ap (λ p. at p g on) (sym (nth_get ss i d l)))

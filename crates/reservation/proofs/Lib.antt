@@ -1,5 +1,5 @@
 pub mod WordSets
-pub mod Places
+pub mod Ranks
 pub mod Ages
 pub mod Indexed
 pub mod Usages

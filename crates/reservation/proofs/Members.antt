@@ -6,7 +6,7 @@ use Rattle.words.specs.Points.{at}
 use Rattle.reservation.specs.declared.bit_set.BitSet.{BitSet}
 use Rattle.reservation.specs.Index.{passing}
 use Rattle.reservation.specs.Sets.{has, FirstFrom, NoneFrom}
-use Rattle.reservation.proofs.Places.{at_here, at_there}
+use Rattle.reservation.proofs.Ranks.{at_here, at_there}
 use Rattle.reservation.proofs.Usages.{cases_map}
 
 pub passing_none : (f : ℕ → Bool) (a n : ℕ) → NoneFrom f a → passing f a n ≡ []

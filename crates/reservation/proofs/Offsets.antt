@@ -25,7 +25,7 @@ kept_at_offset s u p f c chosen taken own =
     let w = s.stock.whole in
     omega arith
 
--- a page that has an open group to take cannot be unplaced
+-- a page that has an open group to take cannot be no_own
 reserving : (s : ReservationAllocator) (p g : ℕ) (t : Step) (h k : ℕ) → is_open (group_of s g) ≡ true → NoGroup s (block_of p) → Rule s p t h k → t ≡ Reserves
 reserving s p g Kept h k o none r = absurd (both_ways _ (none h) r.0)
 reserving s p g Reserves h k o none r = refl

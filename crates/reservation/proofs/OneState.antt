@@ -3,7 +3,7 @@ use Rattle.std.proofs.Common.{◌≡◌, ℕ, zero, suc, ◌+◌, ◌/◌, ◌%�
 use mathlib.Core.Path.{fun_ext}
 use native.Mathlib.Bridge.{le_prop}
 use Rattle.std.proofs.lemmas.Bool.{both_ways, eqb-true, eqb-false, ne_eqb, not_from_false, and_from, and_parts, ltb-true, cases_Bool, cases_eq, cases_order}
-use Rattle.words.specs.Layout.{bit, block_of, offset_of}
+use Rattle.words.specs.Layout.{bit, block_of}
 use Rattle.frames.specs.declared.fault.AllocateFault.{AllocateFault}
 use Rattle.frames.specs.declared.fault.AllocateFault.TheVariants.{AllOut}
 use Rattle.frames.specs.declared.fault.FreeFault.{FreeFault}
@@ -15,10 +15,10 @@ use Rattle.reservation.specs.declared.group.Step.TheVariants.{Kept, Reserves, Sp
 use Rattle.reservation.specs.declared.group.Usage.{Usage}
 use Rattle.reservation.specs.declared.group.Usage.TheVariants.{Open, Reserved, Broken}
 use Rattle.reservation.specs.declared.reservation.ReservationAllocator.{ReservationAllocator}
-use Rattle.reservation.specs.Ages.{place_of, taken_out}
+use Rattle.reservation.specs.Ages.{rank_of, taken_out}
 use Rattle.reservation.specs.Groups.{open_use, broken_use, is_open, is_broken, has_in, block_use, In, OutAt}
 use Rattle.reservation.specs.Laws.{own_group, last_step, SameSpot, Agree, SameState, Determined}
-use Rattle.reservation.specs.Reservation.{reservation, group_of, older, frame_at, group_at, offset_at, LowestOpen, NoSpare, NoneIn, Unplaced, Longest, Rule, Chosen, UsedAs, OrderAfter, OnlyGroup, Taken, CameIn}
+use Rattle.reservation.specs.Reservation.{reservation, group_of, older, frame_at, group_at, offset_at, LowestOpen, NoSpare, NoneIn, NoOwn, Longest, Rule, Chosen, UsedAs, OrderAfter, OnlyGroup, Taken, CameIn}
 use Rattle.reservation.proofs.Grouped.{full_bit}
 use Rattle.reservation.proofs.Usages.{both_for}
 use Rattle.reservation.proofs.WordSets.{half_bit}
@@ -39,8 +39,8 @@ in_has x k (l, e) = not_from_false (eqb x.out.bits 65535) (ne_eqb x.out.bits 655
 longest_once : (s : ReservationAllocator) (g h : ℕ) → Longest s g → Longest s h → g ≡ h
 longest_once s g h x y = ⊎_elim (λ e. e)
     (λ ne. absurd (
-    let a : place_of s.order g < place_of s.order h = ltb-true _ _ (and_parts _ _ (x.first h y.here (λ e. ne (sym e)))).1 in
-    let b : place_of s.order h < place_of s.order g = ltb-true _ _ (and_parts _ _ (y.first g x.here ne)).1 in
+    let a : rank_of s.order g < rank_of s.order h = ltb-true _ _ (and_parts _ _ (x.first h y.here (λ e. ne (sym e)))).1 in
+    let b : rank_of s.order h < rank_of s.order g = ltb-true _ _ (and_parts _ _ (y.first g x.here ne)).1 in
     omega arith))
     (cases_eq g h)
 
@@ -48,19 +48,19 @@ longest_once s g h x y = ⊎_elim (λ e. e)
 abbrev At : ReservationAllocator → ℕ → Step → ℕ → ℕ → Type 0
 At s p t g k = Rule s p t g k × In (group_of s g) k
 
-not_unplaced : (s : ReservationAllocator) (p : ℕ) (t : Step) (g k : ℕ) → own_group t ≡ true → At s p t g k → Unplaced s p → ⊥
-not_unplaced s p Kept g k o ((r, e), (l, b)) u = both_ways _ b (ap (bit (group_of s g).out.bits) e ∙ u.kept g r)
-not_unplaced s p Reserves g k o ((none, f, e), i) u = both_ways _ (u.reserves none g) f.here
-not_unplaced s p Spare g k o r u = both_ways false refl o
-not_unplaced s p Breaks g k o r u = both_ways false refl o
-not_unplaced s p BreaksOldest g k o r u = both_ways false refl o
+has_own : (s : ReservationAllocator) (p : ℕ) (t : Step) (g k : ℕ) → own_group t ≡ true → At s p t g k → NoOwn s p → ⊥
+has_own s p Kept g k o ((r, e), (l, b)) u = both_ways _ b (ap (bit (group_of s g).out.bits) e ∙ u.kept g r)
+has_own s p Reserves g k o ((none, f, e), i) u = both_ways _ (u.reserves none g) f.here
+has_own s p Spare g k o r u = both_ways false refl o
+has_own s p Breaks g k o r u = both_ways false refl o
+has_own s p BreaksOldest g k o r u = both_ways false refl o
 
-unplaced : (s : ReservationAllocator) (p : ℕ) (t : Step) (g k : ℕ) → own_group t ≡ false → Rule s p t g k → Unplaced s p
-unplaced s p Kept g k o r = absurd (both_ways true o refl)
-unplaced s p Reserves g k o r = absurd (both_ways true o refl)
-unplaced s p Spare g k o r = r.0
-unplaced s p Breaks g k o r = r.0
-unplaced s p BreaksOldest g k o r = r.0
+no_own : (s : ReservationAllocator) (p : ℕ) (t : Step) (g k : ℕ) → own_group t ≡ false → Rule s p t g k → NoOwn s p
+no_own s p Kept g k o r = absurd (both_ways true o refl)
+no_own s p Reserves g k o r = absurd (both_ways true o refl)
+no_own s p Spare g k o r = r.0
+no_own s p Breaks g k o r = r.0
+no_own s p BreaksOldest g k o r = r.0
 
 -- two steps of their own groups, and two others
 own_once : (s : ReservationAllocator) (p : ℕ) (t v : Step) (g h j k : ℕ) → own_group t ≡ true → own_group v ≡ true → Rule s p t g j → Rule s p v h k → (t ≡ v) × (g ≡ h) × (j ≡ k)
@@ -112,10 +112,10 @@ choices s p c d x y = ⊎_elim
     (λ a. ⊎_elim
     (λ b. let (e, g, k) = own_once s p c.step d.step c.spot.group d.spot.group c.spot.offset.number d.spot.offset.number a b x.rule y.rule in
     record { step = e; spot = λ o. record { group = g; offset = k }; oldest = λ o. absurd (own_last c.step a o) })
-    (λ b. absurd (not_unplaced s p c.step c.spot.group c.spot.offset.number a (x.rule, x.within) (unplaced s p d.step d.spot.group d.spot.offset.number b y.rule)))
+    (λ b. absurd (has_own s p c.step c.spot.group c.spot.offset.number a (x.rule, x.within) (no_own s p d.step d.spot.group d.spot.offset.number b y.rule)))
     (cases_Bool (own_group d.step)))
     (λ a. ⊎_elim
-    (λ b. absurd (not_unplaced s p d.step d.spot.group d.spot.offset.number b (y.rule, y.within) (unplaced s p c.step c.spot.group c.spot.offset.number a x.rule)))
+    (λ b. absurd (has_own s p d.step d.spot.group d.spot.offset.number b (y.rule, y.within) (no_own s p c.step c.spot.group c.spot.offset.number a x.rule)))
     (λ b. let (e, g) = any_once s p c.step d.step c.spot.group d.spot.group c.spot.offset.number d.spot.offset.number a b (x.rule, x.within) (y.rule, y.within) in
     record { step = e; spot = λ o. absurd (both_ways _ a o); oldest = g })
     (cases_Bool (own_group d.step)))
@@ -127,9 +127,9 @@ same_bits zero a b l m each = omega arith
 same_bits (suc n) a b l m each =
     let halves : a / 2 ≡ b / 2 = same_bits n (a / 2) (b / 2) (omega arith) (omega arith) (λ k. sym (half_bit a k) ∙ each (suc k) ∙ half_bit b k) in
     let first : a % 2 ≡ b % 2 = ⊎_elim
-        (λ e. let f = eqb-true (b / 2 ^ 0 % 2) 1 (sym (each 0) ∙ e) in let g = eqb-true (a / 2 ^ 0 % 2) 1 e in omega arith)
-        (λ e. let f = eqb-false (b / 2 ^ 0 % 2) 1 (sym (each 0) ∙ e) in let g = eqb-false (a / 2 ^ 0 % 2) 1 e in omega arith)
-        (cases_Bool (bit a 0)) in
+    (λ e. let f = eqb-true (b / 2 ^ 0 % 2) 1 (sym (each 0) ∙ e) in let g = eqb-true (a / 2 ^ 0 % 2) 1 e in omega arith)
+    (λ e. let f = eqb-false (b / 2 ^ 0 % 2) 1 (sym (each 0) ∙ e) in let g = eqb-false (a / 2 ^ 0 % 2) 1 e in omega arith)
+    (cases_Bool (bit a 0)) in
     omega arith
 
 -- what a group is used for after a step

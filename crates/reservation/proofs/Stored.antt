@@ -18,7 +18,7 @@ use Rattle.reservation.specs.declared.reservation.ReservationAllocator.{Reservat
 use Rattle.reservation.specs.Ages.{member, before, waits, put_last, taken_out, Joins, Stays, Updated}
 use Rattle.reservation.specs.Groups.{nth_group, open_use, reserved_use, same_block, is_open, is_reserved, has_in, waits_in, turn_of, OutAt, Returned}
 use Rattle.reservation.specs.Reservation.{group_of, older, frame_at, group_at, offset_at, group_stock, group_out, Rule, UsedAs, OrderAfter, OnlyGroup, Chosen, Taken, CameIn}
-use Rattle.reservation.proofs.Places.{at_here, at_there, at_each, and_true}
+use Rattle.reservation.proofs.Ranks.{at_here, at_there, at_each, and_true}
 use Rattle.reservation.proofs.Usages.{both_for, same_for, same_sym, broken_alone, block_reserved, broken_only, open_only, open_alone}
 use Rattle.reservation.proofs.WordSets.{bit_some}
 

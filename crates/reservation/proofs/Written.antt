@@ -1,4 +1,4 @@
--- The group n is written, at the place i: what an allocator keeps of its groups, afterwards.
+-- The group n is written, as the number i of the row: what an allocator keeps of its groups, afterwards.
 use Rattle.std.proofs.Common.{◌≡◌, ℕ, ◌<◌, Bool, true, eqb, set, sym, refl, ap, ◌∙◌, subst, arith}
 use Rattle.words.specs.Points.{at}
 use Rattle.reservation.specs.declared.age_order.AgeOrder.{AgeOrder}
@@ -11,7 +11,7 @@ use Rattle.reservation.specs.Groups.{nth_group, is_open, is_spare, is_reserved, 
 use Rattle.reservation.specs.Index.{in_bucket, ListedAs, OthersListed}
 use Rattle.reservation.specs.Reservation.{group_of}
 use Rattle.reservation.specs.Sets.{has}
-use Rattle.reservation.proofs.Places.{at_each}
+use Rattle.reservation.proofs.Ranks.{at_each}
 use Rattle.reservation.proofs.Stored.{nth_set, kept_flag, kept_single, within_after, waiting_after}
 
 abbrev after : ReservationAllocator → ℕ → Group → ℕ → Group

@@ -5,32 +5,32 @@ use Rattle.words.specs.Points.{at}
 use Rattle.reservation.specs.declared.age_order.AgeOrder.{AgeOrder}
 use Rattle.reservation.specs.Sets.{has}
 
--- the place of the group, where it is in the order
-abbrev pub place_in : AgeOrder → ℕ → Option ℕ
-place_in a g = slice_index_or a.places g None
+-- the rank of the group, where it is in the order
+abbrev pub rank_in : AgeOrder → ℕ → Option ℕ
+rank_in a g = slice_index_or a.ranks g None
 
 -- the group is in the order
 abbrev pub member : AgeOrder → ℕ → Bool
-member a g = is_some (place_in a g)
+member a g = is_some (rank_in a g)
 
-abbrev pub place_of : AgeOrder → ℕ → ℕ
-place_of a g = unwrap_or (place_in a g) 0
+abbrev pub rank_of : AgeOrder → ℕ → ℕ
+rank_of a g = unwrap_or (rank_in a g) 0
 
 -- both groups are in the order, g before h
 abbrev pub before : AgeOrder → ℕ → ℕ → Bool
-before a g h = (member a g && member a h) && nat_lt (place_of a g) (place_of a h)
+before a g h = (member a g && member a h) && nat_lt (rank_of a g) (rank_of a h)
 
 -- the group is in the order and waits
 abbrev pub waits : AgeOrder → ℕ → Bool
-waits a g = member a g && has a.waiting (place_of a g)
+waits a g = member a g && has a.waiting (rank_of a g)
 
--- a group of the order has the place p
+-- a group of the order has the rank p
 abbrev pub taken : AgeOrder → ℕ → Bool
-taken a p = member a (slice_index a.groups.items p) && place_of a (slice_index a.groups.items p) == p
+taken a p = member a (slice_index a.groups.items p) && rank_of a (slice_index a.groups.items p) == p
 
--- no group of the order has a place from n on but below p
+-- no group of the order has a rank from n on but below p
 abbrev pub Gap : AgeOrder → ℕ → ℕ → Type 0
-Gap a n p = (g : ℕ) → member a g ≡ true → n ≤ place_of a g → p ≤ place_of a g
+Gap a n p = (g : ℕ) → member a g ≡ true → n ≤ rank_of a g → p ≤ rank_of a g
 
 -- an order of groups, with the group g put last, or taken out
 abbrev pub put_last : (ℕ → ℕ → Bool) → (ℕ → Bool) → ℕ → ℕ → ℕ → Bool

@@ -9,7 +9,7 @@ use Rattle.reservation.specs.declared.group.Usage.{Usage}
 use Rattle.reservation.specs.Groups.{bucket_use}
 use Rattle.reservation.specs.Sets.{has}
 
--- what the set at the place h of a row has
+-- what the set number h of a row has
 abbrev pub nth_has : {n : ℕ} → List (BitSet n) → ℕ → ℕ → Bool
 nth_has [] h k = false
 nth_has (s ∷ ss) zero k = has s k

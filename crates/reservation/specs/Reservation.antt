@@ -62,7 +62,7 @@ abbrev pub NoneIn : ReservationAllocator → Type 0
 NoneIn s = (g : ℕ) → has_in (group_of s g) ≡ false
 
 -- the first two steps have no frame for the page: that of its block's group is out; and where its block has no group, none is open
-pub record Unplaced (s : ReservationAllocator) (p : ℕ) : Type 0 where
+pub record NoOwn (s : ReservationAllocator) (p : ℕ) : Type 0 where
   pub kept : (g : ℕ) → block_use (block_of p) (group_of s g).usage ≡ true → bit (group_of s g).out.bits (offset_of p) ≡ true
   pub reserves : NoGroup s (block_of p) → NoOpen s
 
@@ -76,9 +76,9 @@ pub record Longest (s : ReservationAllocator) (g : ℕ) : Type 0 where
 abbrev pub Rule : ReservationAllocator → ℕ → Step → ℕ → ℕ → Type 0
 Rule s p Kept g k = (block_use (block_of p) (group_of s g).usage ≡ true) × (k ≡ offset_of p)
 Rule s p Reserves g k = NoGroup s (block_of p) × LowestOpen s g × (k ≡ offset_of p)
-Rule s p Spare g k = Unplaced s p × (is_broken (group_of s g) ≡ true)
-Rule s p Breaks g k = Unplaced s p × NoSpare s × (is_open (group_of s g) ≡ true)
-Rule s p BreaksOldest g k = Unplaced s p × NoSpare s × NoOpen s × Longest s g
+Rule s p Spare g k = NoOwn s p × (is_broken (group_of s g) ≡ true)
+Rule s p Breaks g k = NoOwn s p × NoSpare s × (is_open (group_of s g) ≡ true)
+Rule s p BreaksOldest g k = NoOwn s p × NoSpare s × NoOpen s × Longest s g
 
 -- a frame that is in, taken by its step's rule
 pub record Chosen (s : ReservationAllocator) (p : ℕ) (c : Choice) : Type 0 where

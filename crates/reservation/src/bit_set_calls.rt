@@ -8,11 +8,11 @@ use crate::bit_set::BitSet;
 
 // The word with one bit set or cleared. Like `has` below, apart from the sets of offsets, whose words have 16 bits: Rust has no one shift for
 // both widths.
-fn with_bit(word: u64, place: usize, on: bool) -> u64
-    requires { place < 64 }
-    ensures { bit result ≡ at (bit word) place on }
+fn with_bit(word: u64, index: usize, on: bool) -> u64
+    requires { index < 64 }
+    ensures { bit result ≡ at (bit word) index on }
 {
-    let mask = 1u64 << place;
+    let mask = 1u64 << index;
     if on { word | mask } else { word & !mask }
 }
 

@@ -2,7 +2,7 @@
 ghost use Rattle.std.specs.Prelude.{◌≡◌, ℕ, true, false, IfSome, MatchOption};
 ghost use Rattle.words.specs.Layout.{bit};
 ghost use Rattle.reservation.specs.Groups.{is_broken, waits_in, has_in, block_use, In};
-ghost use Rattle.reservation.specs.Reservation.{group_of, NoGroup, NoOpen, LowestOpen, NoSpare, NoneIn, OnlyFor, Longest, Unplaced, Chosen};
+ghost use Rattle.reservation.specs.Reservation.{group_of, NoGroup, NoOpen, LowestOpen, NoSpare, NoneIn, OnlyFor, Longest, NoOwn, Chosen};
 
 use crate::block_index_calls::lowest;
 use crate::group::{Choice, Step};
@@ -21,13 +21,13 @@ impl ReservationAllocator {
     pub(crate) fn choose(&self, page: Page) -> Option<Choice>
         ensures { MatchOption result (NoneIn self.now) (λ c. Chosen self.now page.number c) }
     {
-        self.choose_placed(page).or_else(|| self.choose_any(page))
+        self.choose_own(page).or_else(|| self.choose_any(page))
     }
 
     // The frame at the page's offset, in the group that is reserved for its block or that can be.
     #[tactic(auto, using(crate::proofs::Grouped::kept_chosen))]
-    fn choose_placed(&self, page: Page) -> Option<Choice>
-        ensures { MatchOption result (Unplaced self.now page.number) (λ c. Chosen self.now page.number c) }
+    fn choose_own(&self, page: Page) -> Option<Choice>
+        ensures { MatchOption result (NoOwn self.now page.number) (λ c. Chosen self.now page.number c) }
     {
         let offset = page.offset();
         if let Some(group) = self.group_for(page.block()) {
@@ -44,7 +44,7 @@ impl ReservationAllocator {
 
     // Any frame that is in.
     fn choose_any(&self, page: Page) -> Option<Choice>
-        requires { Unplaced self.now page.number }
+        requires { NoOwn self.now page.number }
         ensures { MatchOption result (NoneIn self.now) (λ c. Chosen self.now page.number c) }
     {
         if let Some(group) = self.lowest_spare() {

@@ -104,8 +104,8 @@ fn draw_frame<R: Rng>(random: &mut R, phase: Phase, given: &[u32]) -> u32 {
         1 => FIRST_FRAME - 32 + below(random, 4_096 + 64) as u32,
         _ => {
             let back = 1 + below(random, u64::from(phase.last)) as usize;
-            let place = given.len().saturating_sub(back);
-            given.get(place).copied().unwrap_or(FIRST_FRAME)
+            let index = given.len().saturating_sub(back);
+            given.get(index).copied().unwrap_or(FIRST_FRAME)
         }
     }
 }

@@ -1,5 +1,7 @@
 // The same calls on an allocator and on a model of it.
-ghost use Rattle.std.specs.Prelude.{◌≡◌, IfOk, length};
+ghost use Rattle.std.specs.Prelude.{◌≡◌, MatchResult, length};
+ghost use Rattle.reservation_compare.specs.declared.calls.Call.TheVariants.{Allocate, Free};
+ghost use Rattle.reservation_compare.specs.Agreement.{Compared, Noted, Stopped, AllAgreed, FirstDiffers};
 
 use crate::calls::{Call, phases};
 use crate::event::Event;
@@ -11,13 +13,15 @@ use rand_xoshiro::Xoshiro256PlusPlus;
 use std::alloc::Global;
 use words::Page;
 
-// What came of each of the 17,000 calls, where every answer is one that the model allows.
+// The events of the 17,000 calls, where the allocator and the model agree on each; else the first call on which they do not.
 pub fn compare<A: FrameAllocator + Drop, M: FrameModel + Drop>(
     heap: Global,
     allocator: A,
     model: M,
 ) -> Result<Vec<Event>, Stop>
-    ensures { IfOk result (λ events. length events.items ≡ 17000) }
+    ensures { MatchResult result
+        (λ events. (length events.items ≡ 17000) × AllAgreed A.meaning M.meaning allocator model events.items)
+        (λ stop. FirstDiffers A.meaning M.meaning allocator model stop) }
 {
     let mut random = Xoshiro256PlusPlus::seed_from_u64(1);
     let mut both = Both {
@@ -29,14 +33,7 @@ pub fn compare<A: FrameAllocator + Drop, M: FrameModel + Drop>(
     for phase in phases() {
         for _ in 0..phase.calls {
             let call = Call::draw(&mut random, phase, &both.given);
-            let before = events.len();
-            let stop = |fault| Stop {
-                before,
-                call,
-                fault,
-            };
-            let event = both.make(call).map_err(stop)?;
-            events.push(event).map_err(|_| stop(Fault::NoMemory))?;
+            both.note(heap, call, &mut events)?;
         }
     }
     Ok(events)
@@ -51,28 +48,69 @@ struct Both<A, M> {
 }
 
 impl<A: FrameAllocator, M: FrameModel> Both<A, M> {
-    fn make(&mut self, call: Call) -> Result<Event, Fault> {
+    // Makes the call, and notes what came of it after the other events.
+    fn note(&mut self, heap: Global, call: Call, events: &mut Vec<Event>) -> Result<(), Stop>
+        ensures { MatchResult result
+            (λ _. Noted A.meaning M.meaning self.old.allocator self.old.model call events.old.items self.new.allocator self.new.model events.new.items)
+            (λ stop. Stopped A.meaning M.meaning self.old.allocator self.old.model call events.old.items stop) }
+    {
+        let before = events.len();
+        let event = match self.make(heap, call) {
+            Ok(event) => event,
+            Err(fault) => {
+                return Err(Stop {
+                    before,
+                    call,
+                    fault,
+                });
+            }
+        };
+        if events.push(event).is_err() {
+            return Err(Stop {
+                before,
+                call,
+                fault: Fault::NoMemory,
+            });
+        }
+        Ok(())
+    }
+
+    fn make(&mut self, heap: Global, call: Call) -> Result<Event, Fault>
+        ensures { Compared A.meaning M.meaning self.old.allocator self.old.model call result self.new.allocator self.new.model }
+    {
         match call {
-            Call::Allocate(page) => self.allocate(page),
+            Call::Allocate(page) => self.allocate(heap, page),
             Call::Free(frame) => self.free(frame),
         }
     }
 
-    fn allocate(&mut self, page: u64) -> Result<Event, Fault> {
-        let answer = self.allocator.allocate(Page::try_from(page)?).ok();
-        if let Some(frame) = answer {
+    fn allocate(&mut self, heap: Global, page: u64) -> Result<Event, Fault>
+        ensures { Compared A.meaning M.meaning self.old.allocator self.old.model (Allocate page) result self.new.allocator self.new.model }
+    {
+        let choices = self.model.choices(heap, page)?;
+        if let Ok(frame) = self.allocator.allocate(Page::try_from(page)?) {
+            if !choices.frames.contains(&frame) {
+                return Err(Fault::Differs);
+            }
+            self.model.take(page, frame);
             self.given.push(frame)?;
+        } else if !choices.frames.is_empty() {
+            return Err(Fault::Differs);
         }
-        self.model.allocate(page, answer)
+        Ok(choices.event)
     }
 
-    fn free(&mut self, frame: u32) -> Result<Event, Fault> {
+    fn free(&mut self, frame: u32) -> Result<Event, Fault>
+        ensures { Compared A.meaning M.meaning self.old.allocator self.old.model (Free frame) result self.new.allocator self.new.model }
+    {
         let freed = self.allocator.free(frame).is_ok();
-        let event = self.model.free(frame)?;
-        if freed == (event == Event::Freed) {
-            Ok(event)
-        } else {
-            Err(Fault::Differs)
+        if freed != self.model.is_out(frame) {
+            return Err(Fault::Differs);
         }
+        if !freed {
+            return Ok(Event::NotOut);
+        }
+        self.model.give(frame)?;
+        Ok(Event::Freed)
     }
 }

@@ -1,11 +1,12 @@
 // Reservation by its rules alone: each step looks through all the groups.
-ghost use Rattle.std.specs.Prelude.{◌≡◌, ◌<◌, All, IfOk, false, length, replicate};
+ghost use Rattle.std.specs.Prelude.{◌≡◌, ◌+◌, ◌*◌, ◌<◌, All, IfOk, MatchOption, false, length, replicate};
 ghost use Rattle.reservation_compare.specs.declared.group_model.Use.TheVariants.{Open};
+ghost use Rattle.reservation_compare.specs.GroupModel.{group_model, model_out, out_at};
+ghost use Rattle.std.specs.Bool.{OnTrue};
 
 use crate::calls::FIRST_FRAME;
 use crate::event::Event;
-use crate::fault::Fault;
-use crate::model::FrameModel;
+use crate::model::{Choices, FrameModel};
 use std::alloc::{AllocError, Global};
 
 #[derive(Clone, Copy, PartialEq, Eq, Debug)]
@@ -47,28 +48,30 @@ impl GroupState {
 
 // Where a frame is.
 #[derive(Clone, Copy, PartialEq, Eq, Debug)]
-struct Place {
+struct Spot {
     group: usize,
     offset: usize,
     ghost within: { offset < 16 },
 }
 
-impl Place {
+impl Spot {
     // Frames below the stock have none; those past it are in groups that there are not.
-    fn of_frame(frame: u32) -> Option<Place> {
+    fn of_frame(frame: u32) -> Option<Spot>
+        ensures { MatchOption result (frame < 74560) (λ spot. 74560 + (16 * spot.group + spot.offset) ≡ frame) }
+    {
         let number = frame.checked_sub(FIRST_FRAME)? as usize;
-        Some(Place {
+        Some(Spot {
             group: number / 16,
             offset: number % 16,
         })
     }
 }
 
-// The first step that has a frame, with what it leaves no choice of: the frame's place, or the group.
+// The first step that has a frame, with what it leaves no choice of: the frame's spot, or the group.
 #[derive(Clone, Copy)]
 enum Step {
-    Kept(Place),
-    Reserves(Place),
+    Kept(Spot),
+    Reserves(Spot),
     Spare,
     Breaks,
     BreaksOldest(usize),
@@ -99,12 +102,12 @@ impl GroupModel {
     fn step(&self, page: u64) -> Option<Step> {
         let offset = (page % 16) as usize;
         if let Some(group) = self.reserved_group(page / 16) {
-            let place = Place { group, offset };
-            if self.is_in(place) {
-                return Some(Step::Kept(place));
+            let spot = Spot { group, offset };
+            if !self.has_out(spot) {
+                return Some(Step::Kept(spot));
             }
         } else if let Some(group) = self.open_group() {
-            return Some(Step::Reserves(Place { group, offset }));
+            return Some(Step::Reserves(Spot { group, offset }));
         }
         self.any_step()
     }
@@ -147,31 +150,41 @@ impl GroupModel {
         Some(oldest?.1)
     }
 
-    fn is_in(&self, place: Place) -> bool {
-        self.groups
-            .get(place.group)
-            .is_some_and(|group| !group.out[place.offset])
+    fn has_out(&self, spot: Spot) -> bool
+        ensures { result ≡ out_at self.now spot.group spot.offset }
+    {
+        match self.groups.get(spot.group) {
+            Some(group) => group.out[spot.offset],
+            None => false,
+        }
     }
 
-    // Whether the step may take the frame at the place.
-    fn allows(&self, step: Step, place: Place) -> bool {
-        let Some(group) = self.groups.get(place.group) else {
+    // Whether the step may take the frame.
+    fn allows(&self, step: Step, frame: u32) -> bool
+        ensures { OnTrue result (model_out self.now frame ≡ false) }
+    {
+        let Some(spot) = Spot::of_frame(frame) else {
             return false;
         };
-        !group.out[place.offset]
-            && match step {
-                Step::Kept(only) | Step::Reserves(only) => place == only,
-                Step::Spare => group.used == Use::Broken,
-                Step::Breaks => group.used == Use::Open,
-                Step::BreaksOldest(oldest) => place.group == oldest,
-            }
+        let Some(group) = self.groups.get(spot.group) else {
+            return false;
+        };
+        if self.has_out(spot) {
+            return false;
+        }
+        match step {
+            Step::Kept(only) | Step::Reserves(only) => spot == only,
+            Step::Spare => group.used == Use::Broken,
+            Step::Breaks => group.used == Use::Open,
+            Step::BreaksOldest(oldest) => spot.group == oldest,
+        }
     }
 
     // Takes the frame by the step.
-    fn follow(&mut self, step: Step, block: u64, place: Place) -> Event {
+    fn follow(&mut self, step: Step, block: u64, spot: Spot) {
         let turn = self.turns;
-        if let Some(group) = self.groups.get_mut(place.group) {
-            group.out[place.offset] = true;
+        if let Some(group) = self.groups.get_mut(spot.group) {
+            group.out[spot.offset] = true;
             group.used = match step {
                 Step::Kept(_) => group.used,
                 Step::Reserves(_) => Use::Reserved { block, turn },
@@ -179,7 +192,6 @@ impl GroupModel {
             };
         }
         self.turns = turn.saturating_add(1);
-        Event::from(step)
     }
 }
 
@@ -196,33 +208,50 @@ impl From<Step> for Event {
 }
 
 impl FrameModel for GroupModel {
-    fn allocate(&mut self, page: u64, answer: Option<u32>) -> Result<Event, Fault> {
-        let (step, frame) = match (self.step(page), answer) {
-            (Some(step), Some(frame)) => (step, frame),
-            (None, None) => return Ok(Event::AllOut),
-            _ => return Err(Fault::Differs),
+    ghost meaning = { group_model };
+
+    fn choices(&self, heap: Global, page: u64) -> Result<Choices, AllocError> {
+        let mut frames = Vec::new(heap);
+        let Some(step) = self.step(page) else {
+            return Ok(Choices {
+                event: Event::AllOut,
+                frames,
+            });
         };
-        let place = Place::of_frame(frame).ok_or(Fault::Differs)?;
-        if !self.allows(step, place) {
-            return Err(Fault::Differs);
+        for frame in FIRST_FRAME..FIRST_FRAME + 4096 {
+            if self.allows(step, frame) {
+                frames.push(frame)?;
+            }
         }
-        Ok(self.follow(step, page / 16, place))
+        Ok(Choices {
+            event: Event::from(step),
+            frames,
+        })
     }
 
-    fn free(&mut self, frame: u32) -> Result<Event, Fault> {
-        let Some(place) = Place::of_frame(frame) else {
-            return Ok(Event::NotOut);
-        };
-        let Some(group) = self.groups.get_mut(place.group) else {
-            return Ok(Event::NotOut);
-        };
-        if !group.out[place.offset] {
-            return Ok(Event::NotOut);
+    fn take(&mut self, page: u64, frame: u32) {
+        if let (Some(step), Some(spot)) = (self.step(page), Spot::of_frame(frame)) {
+            self.follow(step, page / 16, spot);
         }
-        group.out[place.offset] = false;
-        if !group.out.contains(&true) {
-            group.used = Use::Open;
+    }
+
+    fn is_out(&self, frame: u32) -> bool {
+        match Spot::of_frame(frame) {
+            Some(spot) => self.has_out(spot),
+            None => false,
         }
-        Ok(Event::Freed)
+    }
+
+    fn give(&mut self, frame: u32) -> Result<(), AllocError> {
+        let Some(spot) = Spot::of_frame(frame) else {
+            return Ok(());
+        };
+        if let Some(group) = self.groups.get_mut(spot.group) {
+            group.out[spot.offset] = false;
+            if !group.out.contains(&true) {
+                group.used = Use::Open;
+            }
+        }
+        Ok(())
     }
 }

@@ -1,10 +1,10 @@
 // The free list as the queue of the frames that are in.
 ghost use Rattle.std.specs.Prelude.{◌≡◌, ◌+◌, ℕ, ◌<◌, IfOk, length, slice_index_or};
+ghost use Rattle.reservation_compare.specs.ListModel.{list_model};
 
 use crate::calls::FIRST_FRAME;
 use crate::event::Event;
-use crate::fault::Fault;
-use crate::model::FrameModel;
+use crate::model::{Choices, FrameModel};
 use std::alloc::{AllocError, Global};
 use std::collections::VecDeque;
 
@@ -27,23 +27,34 @@ impl ListModel {
 }
 
 impl FrameModel for ListModel {
-    fn allocate(&mut self, _page: u64, answer: Option<u32>) -> Result<Event, Fault> {
-        let next = self.free.pop_front();
-        if answer != next {
-            return Err(Fault::Differs);
-        }
-        Ok(match next {
-            Some(_) => Event::Head,
-            None => Event::AllOut,
+    ghost meaning = { list_model };
+
+    fn choices(&self, heap: Global, _page: u64) -> Result<Choices, AllocError> {
+        let mut frames = Vec::new(heap);
+        let Some(head) = self.free.front() else {
+            return Ok(Choices {
+                event: Event::AllOut,
+                frames,
+            });
+        };
+        frames.push(*head)?;
+        Ok(Choices {
+            event: Event::Head,
+            frames,
         })
     }
 
-    fn free(&mut self, frame: u32) -> Result<Event, Fault> {
+    fn take(&mut self, _page: u64, _frame: u32) {
+        self.free.pop_front();
+    }
+
+    fn is_out(&self, frame: u32) -> bool {
         let stock = FIRST_FRAME..FIRST_FRAME + 4096;
-        if !stock.contains(&frame) || self.free.contains(&frame) {
-            return Ok(Event::NotOut);
-        }
+        stock.contains(&frame) && !self.free.contains(&frame)
+    }
+
+    fn give(&mut self, frame: u32) -> Result<(), AllocError> {
         self.free.push_front(frame)?;
-        Ok(Event::Freed)
+        Ok(())
     }
 }

@@ -8,6 +8,8 @@ mod fault;
 mod group_model;
 mod list_model;
 mod model;
+#[cfg(test)]
+mod tests;
 
 use anyhow::anyhow;
 use calls::FIRST_GROUP;

@@ -1,20 +1,20 @@
 use Rattle.std.proofs.Common.{None, set, lit<, arith, rules}
 use Rattle.reservation.specs.Sets.{has}
-use Rattle.reservation.proofs.Ages.{left, leaves_at, not_there, all_placed, all_waits}
+use Rattle.reservation.proofs.Ages.{left, leaves_at, not_there, all_ranked, all_waits}
 use Rattle.reservation.proofs.age_order.AgeOrder.leave.Goals as goal
 
 pub put-requires : goal.put-requires
 put-requires c =
     let s = c.args.self.now in
     let f = s.few in
-    let here = s.placed c.from.result c.in-Some.place c.in-Some.is in
+    let here = s.ranked c.from.result c.in-Some.rank c.in-Some.is in
     (lit< tt, omega arith)
 
 pub invariant_of-self : goal.invariant_of-self
 invariant_of-self c =
     let s = c.args.self.now in
-    let (p, within, order, waiting) = left s c.from.result c.in-Some.place (set s.places c.from-in-Some.result None) (has c.put.new.self) c.in-Some.is (cc) (cc) in
-    record { few = s.few; placed = all_placed _ _ _ _ p; waits = all_waits _ _ _ _ p }
+    let (p, within, order, waiting) = left s c.from.result c.in-Some.rank (set s.ranks c.from-in-Some.result None) (has c.put.new.self) c.in-Some.is (cc) (cc) in
+    record { few = s.few; ranked = all_ranked _ _ _ _ p; waits = all_waits _ _ _ _ p }
 
 pub returns-in-Some : goal.returns-in-Some
 returns-in-Some c = search (rules, leaves_at)

@@ -1,4 +1,4 @@
--- Groups at places: one more at the end, one gone, one marked, one moved down past empty places.
+-- Groups at ranks: one more at the end, one gone, one marked, one moved down past empty ranks.
 use Rattle.std.proofs.Common.{◌≡◌, ℕ, zero, suc, ◌+◌, ◌<◌, ◌≤◌, Bool, true, false, cond, not, ◌&&◌, eqb, ltb, ◌≢◌, ◌⊎◌, sym, refl, ap, ◌∙◌, subst, ap₂, inl, inr, ⊎_elim, arith}
 use mathlib.Core.Path.{fun_ext}
 use Rattle.std.proofs.lemmas.Bool.{cases_eq, cases_lt, both_ways, eq-eqb, ne_eqb, lt-ltb, le-ltb, cond-true, cond-false, and_parts, and_from, and_right}
@@ -72,9 +72,9 @@ unfolding count
 count_none f zero e = refl
 count_none f (suc n) e = let i = count_none f n e in let b = ap (λ x. cond {A = ℕ} x 1 0) (e n) in omega arith
 
--- which groups are there, their places by group, and the groups by place, of which n are used; W tells the places that wait
-pub record Placed (M W : ℕ → Bool) (F G : ℕ → ℕ) (n : ℕ) : Type 0 where
-  pub placed : (g : ℕ) → M g ≡ true → (F g < n) × (G (F g) ≡ g)
+-- which groups are there, their ranks by group, and the groups by rank, of which n are used; W tells the ranks that wait
+pub record Ranked (M W : ℕ → Bool) (F G : ℕ → ℕ) (n : ℕ) : Type 0 where
+  pub ranked : (g : ℕ) → M g ≡ true → (F g < n) × (G (F g) ≡ g)
   pub waits : (p : ℕ) → W p ≡ true → (M (G p) ≡ true) × (F (G p) ≡ p)
 
 abbrev pub order_of : (ℕ → Bool) → (ℕ → ℕ) → ℕ → ℕ → Bool
@@ -83,12 +83,12 @@ order_of M F a b = (M a && M b) && ltb (F a) (F b)
 abbrev pub waits_of : (ℕ → Bool) → (ℕ → Bool) → (ℕ → ℕ) → ℕ → Bool
 waits_of M W F g = M g && W (F g)
 
-module _ (M W : ℕ → Bool) (F G : ℕ → ℕ) (n : ℕ) (S : Placed M W F G n) where
-  -- two groups have two places
+module _ (M W : ℕ → Bool) (F G : ℕ → ℕ) (n : ℕ) (S : Ranked M W F G n) where
+  -- two groups have two ranks
   apart : (a b : ℕ) → M a ≡ true → M b ≡ true → F a ≡ F b → a ≡ b
-  apart a b i j e = sym (S.placed a i).1 ∙ ap (λ k. G k) e ∙ (S.placed b j).1
+  apart a b i j e = sym (S.ranked a i).1 ∙ ap (λ k. G k) e ∙ (S.ranked b j).1
 
-  -- the first place that waits has the oldest group that does
+  -- the first rank that waits has the oldest group that does
   pub oldest_first : (p g : ℕ) → W p ≡ true → ((q : ℕ) → q < p → W q ≡ false) → g ≡ G p → (waits_of M W F g ≡ true) × ((h : ℕ) → waits_of M W F h ≡ true → (h ≡ g → ⊥) → order_of M F g h ≡ true)
   oldest_first p g w first e =
       let (m, f) = S.waits p w in
@@ -105,16 +105,16 @@ module _ (M W : ℕ → Bool) (F G : ℕ → ℕ) (n : ℕ) (S : Placed M W F G 
             and_from (M g && M h) _ (and_from (M g) (M h) m' i) (lt-ltb _ _ l),
       )
 
-  -- the group g joins at the place n
+  -- the group g joins at the rank n
   module _ (g : ℕ) (w : Bool) (new : M g ≡ false) where
     not_new : (k : ℕ) → M k ≡ true → k ≡ g → ⊥
     not_new k m e = both_ways (M k) (ap M e ∙ new) m
 
-    pub appended : Placed (at M g true) (at W n w) (at F g n) (at G n g) (n + 1)
+    pub appended : Ranked (at M g true) (at W n w) (at F g n) (at G n g) (n + 1)
     appended = record {
-      placed = λ k m. ⊎_elim
+      ranked = λ k m. ⊎_elim
           (λ e. let p = at_here F g n k e in (omega arith, ap (λ x. at G n g x) p ∙ at_here G n g n refl ∙ sym e))
-          (λ ne. let (l, f) = S.placed k (sym (at_there M g true k ne) ∙ m) in
+          (λ ne. let (l, f) = S.ranked k (sym (at_there M g true k ne) ∙ m) in
           let p = at_there F g n k ne in
           (omega arith, ap (λ x. at G n g x) p ∙ at_there G n g (F k) (λ e. omega arith) ∙ f))
           (cases_eq k g);
@@ -131,7 +131,7 @@ module _ (M W : ℕ → Bool) (F G : ℕ → ℕ) (n : ℕ) (S : Placed M W F G 
     appended_waits = fun_ext (λ k. ⊎_elim
         (λ e. ap₂ ◌&&◌ (at_here M g true k e) (ap (at W n w) (at_here F g n k e) ∙ at_here W n w n refl) ∙ sym (at_here (waits_of M W F) g w k e))
         (λ ne. ap₂ ◌&&◌ (at_there M g true k ne) (ap (at W n w) (at_there F g n k ne))
-        ∙ guard (M k) _ _ (λ m. let l = (S.placed k m).0 in at_there W n w (F k) (λ e. omega arith))
+        ∙ guard (M k) _ _ (λ m. let l = (S.ranked k m).0 in at_there W n w (F k) (λ e. omega arith))
         ∙ sym (at_there (waits_of M W F) g w k ne))
         (cases_eq k g))
 
@@ -141,12 +141,12 @@ module _ (M W : ℕ → Bool) (F G : ℕ → ℕ) (n : ℕ) (S : Placed M W F G 
         (λ ea. four _ true _ true _ n _ n (at_here M g true a ea) (at_here M g true b eb) (at_here F g n a ea) (at_here F g n b eb)
         ∙ le-ltb n n (omega arith) ∙ sym (ap M ea ∙ new))
         (λ na. four _ (M a) _ true _ (F a) _ n (at_there M g true a na) (at_here M g true b eb) (at_there F g n a na) (at_here F g n b eb)
-        ∙ guard₂ (M a) true _ true (λ m t. lt-ltb _ _ (S.placed a m).0) ∙ and_true (M a && true) ∙ and_true (M a))
+        ∙ guard₂ (M a) true _ true (λ m t. lt-ltb _ _ (S.ranked a m).0) ∙ and_true (M a && true) ∙ and_true (M a))
         (cases_eq a g)
         ∙ sym (cond-true (eqb b g) (M a) _ (eq-eqb b g eb)))
         (λ nb. ⊎_elim
         (λ ea. four _ true _ (M b) _ n _ (F b) (at_here M g true a ea) (at_there M g true b nb) (at_here F g n a ea) (at_there F g n b nb)
-        ∙ guard₂ true (M b) _ false (λ t m. let l = (S.placed b m).0 in le-ltb _ _ (omega arith)) ∙ and_false (M b)
+        ∙ guard₂ true (M b) _ false (λ t m. let l = (S.ranked b m).0 in le-ltb _ _ (omega arith)) ∙ and_false (M b)
         ∙ sym (ap (λ x. (x && M b) && ltb (F a) (F b)) (ap M ea ∙ new)))
         (λ na. four _ (M a) _ (M b) _ (F a) _ (F b) (at_there M g true a na) (at_there M g true b nb) (at_there F g n a na) (at_there F g n b nb))
         (cases_eq a g)
@@ -158,9 +158,9 @@ module _ (M W : ℕ → Bool) (F G : ℕ → ℕ) (n : ℕ) (S : Placed M W F G 
     elsewhere : (k : ℕ) → M k ≡ true → (k ≡ g → ⊥) → F k ≡ F g → ⊥
     elsewhere k m ne e = ne (apart k g m here e)
 
-    pub gone : Placed (at M g false) (at W (F g) false) F G n
+    pub gone : Ranked (at M g false) (at W (F g) false) F G n
     gone = record {
-      placed = λ k m. S.placed k (still k m).0;
+      ranked = λ k m. S.ranked k (still k m).0;
       waits = λ p x. ⊎_elim
           (λ e. absurd (both_ways _ (at_here W (F g) false p e) x))
           (λ ne. let (m, f) = S.waits p (sym (at_there W (F g) false p ne) ∙ x) in
@@ -174,7 +174,7 @@ module _ (M W : ℕ → Bool) (F G : ℕ → ℕ) (n : ℕ) (S : Placed M W F G 
             (λ ne. (sym (at_there M g false k ne) ∙ m, ne))
             (cases_eq k g)
 
-    -- the place of the group is written
+    -- the rank of the group is written
     pub rewaits : (w : Bool) (k : ℕ) → (k ≡ g → ⊥) → (M k && at W (F g) w (F k)) ≡ (M k && W (F k))
     rewaits w k ne = guard (M k) _ _ (λ m. at_there W (F g) w (F k) (elsewhere k m ne))
 
@@ -185,11 +185,11 @@ module _ (M W : ℕ → Bool) (F G : ℕ → ℕ) (n : ℕ) (S : Placed M W F G 
         (cases_eq k g))
 
     -- the group g is marked
-    pub marked : (w : Bool) → Placed M (at W (F g) w) F G n
+    pub marked : (w : Bool) → Ranked M (at W (F g) w) F G n
     marked w = record {
-      placed = S.placed;
+      ranked = S.ranked;
       waits = λ p x. ⊎_elim
-          (λ e. let f = ap (λ k. G k) e ∙ (S.placed g here).1 in (ap M f ∙ here, ap (λ k. F k) f ∙ sym e))
+          (λ e. let f = ap (λ k. G k) e ∙ (S.ranked g here).1 in (ap M f ∙ here, ap (λ k. F k) f ∙ sym e))
           (λ ne. S.waits p (sym (at_there W (F g) w p ne) ∙ x))
           (cases_eq p (F g));
     }
@@ -200,7 +200,7 @@ module _ (M W : ℕ → Bool) (F G : ℕ → ℕ) (n : ℕ) (S : Placed M W F G 
         (λ ne. rewaits w k ne ∙ sym (at_there (waits_of M W F) g w k ne))
         (cases_eq k g))
 
-  -- the group g moves from its place p down to the place t, and no group is between
+  -- the group g moves from its rank p down to the rank t, and no group is between
   module _ (g p t : ℕ) (here : M g ≡ true) (own : F g ≡ p) (down : t ≤ p) (gap : (k : ℕ) → M k ≡ true → t ≤ F k → p ≤ F k) where
     -- the other groups are below t or above p
     outside : (k : ℕ) → M k ≡ true → (k ≡ g → ⊥) → (F k < t) ⊎ (p < F k)
@@ -218,14 +218,14 @@ module _ (M W : ℕ → Bool) (F G : ℕ → ℕ) (n : ℕ) (S : Placed M W F G 
     abbrev rewaited : ℕ → Bool
     rewaited = at (at W p false) t (W p)
 
-    pub moved : Placed M rewaited (at F g t) (at G t g) n
+    pub moved : Ranked M rewaited (at F g t) (at G t g) n
     moved = record {
-      placed = λ k m. ⊎_elim
+      ranked = λ k m. ⊎_elim
           (λ e. let q = at_here F g t k e in
-          let l = (S.placed g here).0 in
+          let l = (S.ranked g here).0 in
           (omega arith, ap (λ x. at G t g x) q ∙ at_here G t g t refl ∙ sym e))
           (λ ne. let q = at_there F g t k ne in
-          let (l, f) = S.placed k m in
+          let (l, f) = S.ranked k m in
           (omega arith, ap (λ x. at G t g x) q ∙ at_there G t g (F k) (not_to k m ne) ∙ f))
           (cases_eq k g);
       waits = λ q x. ⊎_elim
@@ -267,7 +267,7 @@ module _ (M W : ℕ → Bool) (F G : ℕ → ℕ) (n : ℕ) (S : Placed M W F G 
         (λ ne. let q = at_there F g t k ne in ⊎_elim (λ x. absurd (omega arith)) (λ x. omega arith) (outside k m ne))
         (cases_eq k g)
 
-    -- one group more is at the low places
+    -- one group more is at the low ranks
     pub moved_count : (N : ℕ) → g < N → count (λ k. M k && ltb (at F g t k) (t + 1)) N ≡ count (λ k. M k && ltb (F k) t) N + 1
     moved_count N l = count_more (λ k. M k && ltb (F k) t) (λ k. M k && ltb (at F g t k) (t + 1)) g N l
         (and_right (M g) _ (le-ltb _ t (omega arith)))
@@ -287,19 +287,19 @@ gone_order M F g = fun_ext (λ a. fun_ext (λ b. each (eqb a g) (eqb b g) (M a) 
     each false true u v l = ap (λ z. z && l) (and_false u) ∙ sym (and_false ((u && v) && l))
     each false false u v l = sym (and_true ((u && v) && l))
 
--- a place that no group has
+-- a rank that no group has
 pub passed_gap : (M : ℕ → Bool) (F G : ℕ → ℕ) (n t p : ℕ) → ((g : ℕ) → M g ≡ true → (F g < n) × (G (F g) ≡ g)) → (M (G p) && eqb (F (G p)) p) ≡ false → ((k : ℕ) → M k ≡ true → t ≤ F k → p ≤ F k) → (k : ℕ) → M k ≡ true → t ≤ F k → p + 1 ≤ F k
-passed_gap M F G n t p placed free gap k m l =
+passed_gap M F G n t p ranked free gap k m l =
     let q = gap k m l in
-    let d : F k ≢ p = λ e. let own : G p ≡ k = ap (λ x. G x) (sym e) ∙ (placed k m).1 in
+    let d : F k ≢ p = λ e. let own : G p ≡ k = ap (λ x. G x) (sym e) ∙ (ranked k m).1 in
     both_ways _ free (and_from _ _ (ap M own ∙ m) (eq-eqb _ p (ap (λ x. F x) own ∙ e))) in
     omega arith
 
--- a place counts only for a group that is there
+-- a rank counts only for a group that is there
 module _ (M W : ℕ → Bool) (F F' : ℕ → ℕ) (alike : (k : ℕ) → M k ≡ true → F' k ≡ F k) where
-  pub refit : (G : ℕ → ℕ) (n : ℕ) → Placed M W F G n → Placed M W F' G n
+  pub refit : (G : ℕ → ℕ) (n : ℕ) → Ranked M W F G n → Ranked M W F' G n
   refit G n S = record {
-    placed = λ k m. let (l, e) = S.placed k m in let a = alike k m in (omega arith, ap G a ∙ e);
+    ranked = λ k m. let (l, e) = S.ranked k m in let a = alike k m in (omega arith, ap G a ∙ e);
     waits = λ p x. let (m, f) = S.waits p x in (m, alike (G p) m ∙ f);
   }
 
@@ -309,10 +309,10 @@ module _ (M W : ℕ → Bool) (F F' : ℕ → ℕ) (alike : (k : ℕ) → M k �
   pub refit_waits : waits_of M W F' ≡ waits_of M W F
   refit_waits = fun_ext (λ k. guard (M k) _ _ (λ m. ap W (alike k m)))
 
--- the places from t on go, which no group has
-pub cut : (M W : ℕ → Bool) (F G G' : ℕ → ℕ) (n t : ℕ) → Placed M W F G n → ((k : ℕ) → M k ≡ true → F k < t) → ((p : ℕ) → p < t → G' p ≡ G p) → Placed M W F G' t
+-- the ranks from t on go, which no group has
+pub cut : (M W : ℕ → Bool) (F G G' : ℕ → ℕ) (n t : ℕ) → Ranked M W F G n → ((k : ℕ) → M k ≡ true → F k < t) → ((p : ℕ) → p < t → G' p ≡ G p) → Ranked M W F G' t
 cut M W F G G' n t S low same = record {
-  placed = λ k m. let l = low k m in (l, same (F k) l ∙ (S.placed k m).1);
+  ranked = λ k m. let l = low k m in (l, same (F k) l ∙ (S.ranked k m).1);
   waits = λ p x. let (m, f) = S.waits p x in
       let l = low (G p) m in
       let e = same p (omega arith) in
@@ -323,13 +323,13 @@ cut M W F G G' n t S low same = record {
 pub unchanged : {X : Type 0} (f : ℕ → X) (p : ℕ) (x : X) → f p ≡ x → f ≡ at f p x
 unchanged f p x e = fun_ext (λ q. ⊎_elim (λ i. ap f i ∙ e ∙ sym (at_here f p x q i)) (λ i. sym (at_there f p x q i)) (cases_eq q p))
 
-pub retell : (M M' W W' : ℕ → Bool) (F F' G G' : ℕ → ℕ) (n n' : ℕ) → M' ≡ M → W' ≡ W → F' ≡ F → G' ≡ G → n' ≡ n → Placed M W F G n → Placed M' W' F' G' n'
+pub retell : (M M' W W' : ℕ → Bool) (F F' G G' : ℕ → ℕ) (n n' : ℕ) → M' ≡ M → W' ≡ W → F' ≡ F → G' ≡ G → n' ≡ n → Ranked M W F G n → Ranked M' W' F' G' n'
 retell M M' W W' F F' G G' n n' a b c d e s =
-    subst (λ x. Placed x W' F' G' n') (sym a)
-    (subst (λ x. Placed M x F' G' n') (sym b)
-    (subst (λ x. Placed M W x G' n') (sym c)
-    (subst (λ x. Placed M W F x n') (sym d)
-    (subst (λ x. Placed M W F G x) (sym e) s))))
+    subst (λ x. Ranked x W' F' G' n') (sym a)
+    (subst (λ x. Ranked M x F' G' n') (sym b)
+    (subst (λ x. Ranked M W x G' n') (sym c)
+    (subst (λ x. Ranked M W F x n') (sym d)
+    (subst (λ x. Ranked M W F G x) (sym e) s))))
 
-pub longer : (M W : ℕ → Bool) (F G : ℕ → ℕ) (n n' : ℕ) → n' ≡ n → Placed M W F G n → Placed M W F G n'
-longer M W F G n n' e s = subst (Placed M W F G) (sym e) s
+pub longer : (M W : ℕ → Bool) (F G : ℕ → ℕ) (n n' : ℕ) → n' ≡ n → Ranked M W F G n → Ranked M W F G n'
+longer M W F G n n' e s = subst (Ranked M W F G) (sym e) s

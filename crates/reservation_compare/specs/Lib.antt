@@ -1,0 +1,4 @@
+pub mod Models
+pub mod ListModel
+pub mod GroupModel
+pub mod Agreement
