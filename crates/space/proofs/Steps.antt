@@ -114,8 +114,8 @@ module _ {A B : Type 0} (t : TlbMeaning A) (k : FramesMeaning B) where
   pub sound_after : (m n : PageMap) (s u : State A B) (e : Event) → Small → Sound t k m s → Did m n s u e → Sound t k n u
   sound_after m n s u e small d x = subst (λ v. Sound t k v u) (sym x.becomes) (stays t k small m s u e d x.right).0
 
-  pub begin_mapped : (h : Mapping) (l : Waits) (s : State A B) (a p : ℕ) → p ≡ page_of a → IsMapped h p → Did (record { pages = h; fills = l }) (record { pages = h; fills = l }) s s (event.Begin a (Err begin.Mapped))
-  begin_mapped h l s a p page here = record { right = rw (sym page) (record { first = here; same = refl }); becomes = refl }
+  pub begin_mapped : (h : Mapping) (l : Waits) (s u : State A B) (a p : ℕ) → p ≡ page_of a → IsMapped h p → u ≡ s → Did (record { pages = h; fills = l }) (record { pages = h; fills = l }) s u (event.Begin a (Err begin.Mapped))
+  begin_mapped h l s u a p page here same = record { right = rw (sym page) (record { first = here; same = same }); becomes = refl }
 
   pub begin_frameless : (h : Mapping) (l : Waits) (s u : State A B) (a p : ℕ) (e : AllocateFault) → p ≡ page_of a → h p ≡ None → Accepted (add_refusals l p)
       → Takes k.stock k.out s.frames (Err e) u.frames → k.allocated s.frames p (Err e) u.frames → k.stock u.frames ≡ k.stock s.frames → u.tlb ≡ s.tlb
@@ -141,33 +141,33 @@ module _ {A B : Type 0} (t : TlbMeaning A) (k : FramesMeaning B) where
     becomes = rw (sym page) (ap (λ r. record { pages = h; fills = r }) fills);
   }
 
-  pub settled : (h g : Mapping) (l r : Waits) (s : State A B) (p : Page) (fill : Underway) (x : ℕ) (z : Translation) → Accepted (map_refusals h p.number z) → z.frame ≡ fill.frame → z.attributes ≡ x
-      → l p.number ≡ Some fill → g ≡ mapped h p.number z → r ≡ at l p.number None
-      → Did (record { pages = h; fills = l }) (record { pages = g; fills = r }) s s (event.Settle p fill x (Ok fill.frame))
-  settled h g l r s p fill x z (_, accepted) frame attributes here maps fills =
+  pub settled : (h g : Mapping) (l r : Waits) (s u : State A B) (p : Page) (fill : Underway) (x : ℕ) (z : Translation) → Accepted (map_refusals h p.number z) → z.frame ≡ fill.frame → z.attributes ≡ x
+      → l p.number ≡ Some fill → g ≡ mapped h p.number z → r ≡ at l p.number None → u ≡ s
+      → Did (record { pages = h; fills = l }) (record { pages = g; fills = r }) s u (event.Settle p fill x (Ok fill.frame))
+  settled h g l r s u p fill x z (_, accepted) frame attributes here maps fills same_state =
       let same : z ≡ translation fill.frame x = translation_is z fill.frame x frame attributes in
       record {
         right = record {
           accepted = ((λ big. let b = z.bits in omega arith), ((λ no. no here), subst (λ y. Accepted (room_refusals h p.number y)) same accepted));
           waited = here;
           answered = refl;
-          same = refl;
+          same = same_state;
         };
         becomes = ap₂ (λ a b. record { pages = a; fills = b }) (maps ∙ ap (mapped h p.number) same) fills;
       }
 
   -- no room in the table
-  pub unsettled : (h g : Mapping) (l : Waits) (s : State A B) (p : Page) (fill : Underway) (x : ℕ) (z : Translation) (e : MapFault) (r : Result ℕ SettleFault) → h p.number ≡ None
-      → First (map_refusals h p.number z) (map_number e) → z.frame ≡ fill.frame → z.attributes ≡ x → l p.number ≡ Some fill → IsErrAnd r (SettleFromMap e) → g ≡ h
-      → Did (record { pages = h; fills = l }) (record { pages = g; fills = l }) s s (event.Settle p fill x r)
-  unsettled h g l s p fill x z e r none first frame attributes here is same =
+  pub unsettled : (h g : Mapping) (l : Waits) (s u : State A B) (p : Page) (fill : Underway) (x : ℕ) (z : Translation) (e : MapFault) (r : Result ℕ SettleFault) → h p.number ≡ None
+      → First (map_refusals h p.number z) (map_number e) → z.frame ≡ fill.frame → z.attributes ≡ x → l p.number ≡ Some fill → IsErrAnd r (SettleFromMap e) → g ≡ h → u ≡ s
+      → Did (record { pages = h; fills = l }) (record { pages = g; fills = l }) s u (event.Settle p fill x r)
+  unsettled h g l s u p fill x z e r none first frame attributes here is same same_state =
       let m : PageMap = record { pages = h; fills = l } in
       let small : (4095 < x) → ⊥ = λ big. let b = z.bits in omega arith in
       let made : z ≡ translation fill.frame x = translation_is z fill.frame x frame attributes in
-      err_only (λ r. Did m (record { pages = g; fills = l }) s s (event.Settle p fill x r)) (SettleFromMap e) r is (λ f from. record {
+      err_only (λ r. Did m (record { pages = g; fills = l }) s u (event.Settle p fill x r)) (SettleFromMap e) r is (λ f from. record {
         right = record {
           first = subst (λ y. First ((4095 < x, 5) ∷ (l p.number ≢ Some fill, 6) ∷ room_refusals h p.number y) (settle_number f)) made (lacks e f h p.number z none small (λ no. no here) first from);
-          same = refl;
+          same = same_state;
         };
         becomes = ap (λ a. record { pages = a; fills = l }) same;
       })
@@ -202,11 +202,11 @@ module _ {A B : Type 0} (t : TlbMeaning A) (k : FramesMeaning B) where
     becomes = rw (sym page) (ap (λ b. record { pages = b; fills = l }) maps);
   }
 
-  pub unprotected : (h g : Mapping) (l : Waits) (s : State A B) (a p x : ℕ) (e : ProtectFault) (r : Result ℕ ProtectFault) → p ≡ page_of a → IsErrAnd r (λ f. f ≡ e)
-      → First (protect_refusals h p x) (protect_number e) → g ≡ h → Did (record { pages = h; fills = l }) (record { pages = g; fills = l }) s s (event.Protect a x r)
-  unprotected h g l s a p x e r page is first same =
-      err_only (λ r. Did (record { pages = h; fills = l }) (record { pages = g; fills = l }) s s (event.Protect a x r)) (λ f. f ≡ e) r is (λ f i. record {
-        right = rw (sym page) (record { first = subst (λ c. First (protect_refusals h p x) (protect_number c)) (sym i) first; same = refl });
+  pub unprotected : (h g : Mapping) (l : Waits) (s u : State A B) (a p x : ℕ) (e : ProtectFault) (r : Result ℕ ProtectFault) → p ≡ page_of a → IsErrAnd r (λ f. f ≡ e)
+      → First (protect_refusals h p x) (protect_number e) → g ≡ h → u ≡ s → Did (record { pages = h; fills = l }) (record { pages = g; fills = l }) s u (event.Protect a x r)
+  unprotected h g l s u a p x e r page is first same same_state =
+      err_only (λ r. Did (record { pages = h; fills = l }) (record { pages = g; fills = l }) s u (event.Protect a x r)) (λ f. f ≡ e) r is (λ f i. record {
+        right = rw (sym page) (record { first = subst (λ c. First (protect_refusals h p x) (protect_number c)) (sym i) first; same = same_state });
         becomes = ap (λ b. record { pages = b; fills = l }) same;
       })
 

@@ -1,4 +1,4 @@
-use Rattle.std.proofs.Common.{sym, refl, ◌∙◌}
+use Rattle.std.proofs.Common.{sym, ◌∙◌, rules}
 use Rattle.table.specs.Table.{mapping}
 use Rattle.table.proofs.Tables.{is_mapped, not_mapped}
 use Rattle.fills.specs.Fills.{fill_of}
@@ -11,8 +11,8 @@ returns-then-is_some-clause-law g c =
     let s = c.args.self.now in
     let f = g.met.F.FrameAllocator in
     let (x, here) = is_mapped c.lookup.result (sym c.is_some.ensures ∙ c.if-is_some.true) in
-    lawful s s _ (λ b n out. f.small b n (f.within b n out))
-    (begin_mapped g.T.Tlb.meaning g.F.FrameAllocator.meaning (mapping s.table) (fill_of s.fills) (seen s) c.args.address c.of_address-page.result.number c.of_address-page.ensures (x, sym c.lookup.ensures ∙ here))
+    lawful s _ _ (λ b n out. f.small b n (f.within b n out))
+    (begin_mapped g.T.Tlb.meaning g.F.FrameAllocator.meaning (mapping s.table) (fill_of s.fills) (seen s) _ c.args.address c.of_address-page.result.number c.of_address-page.ensures (x, sym c.lookup.ensures ∙ here) (search rules))
 
 pub invariant_of-self : goal.invariant_of-self
 invariant_of-self g c =
@@ -22,8 +22,8 @@ invariant_of-self g c =
     let e = c.in_err-frame.ensures in
     record {
       sound = sound_after g.T.Tlb.meaning g.F.FrameAllocator.meaning _ _ (seen s) _ _ (λ b n out. f.small b n (f.within b n out)) s.sound
-          (begin_frameless g.T.Tlb.meaning g.F.FrameAllocator.meaning (mapping s.table) (fill_of s.fills) (seen s) (record { tlb = s.tlb; frames = c.allocate.new.self }) c.args.address c.of_address-page.result.number c.in_err-frame.field-0.0
-          c.of_address-page.ensures none c.in_ok-admits.ensures e.takes e.step e.stock refl);
+          (begin_frameless g.T.Tlb.meaning g.F.FrameAllocator.meaning (mapping s.table) (fill_of s.fills) (seen s) _ c.args.address c.of_address-page.result.number c.in_err-frame.field-0.0
+          c.of_address-page.ensures none c.in_ok-admits.ensures (search (rules, e)) (search (rules, e)) (search (rules, e)) (search rules));
     }
 
 pub returns-in_err-frame-clause-law : goal.returns-in_err-frame-clause-law
@@ -33,8 +33,8 @@ returns-in_err-frame-clause-law g c =
     let none = sym c.lookup.ensures ∙ not_mapped c.lookup.result (sym c.is_some.ensures ∙ c.if-is_some.false) in
     let e = c.in_err-frame.ensures in
     frameless s _ c.args.address c.from_residual-in_err-frame.result (λ b n out. f.small b n (f.within b n out)) c.from_residual-in_err-frame.ensures.1
-    (begin_frameless g.T.Tlb.meaning g.F.FrameAllocator.meaning (mapping s.table) (fill_of s.fills) (seen s) (record { tlb = s.tlb; frames = c.allocate.new.self }) c.args.address c.of_address-page.result.number c.in_err-frame.field-0.0
-    c.of_address-page.ensures none c.in_ok-admits.ensures e.takes e.step e.stock refl)
+    (begin_frameless g.T.Tlb.meaning g.F.FrameAllocator.meaning (mapping s.table) (fill_of s.fills) (seen s) _ c.args.address c.of_address-page.result.number c.in_err-frame.field-0.0
+    c.of_address-page.ensures none c.in_ok-admits.ensures (search (rules, e)) (search (rules, e)) (search (rules, e)) (search rules))
 
 pub invariant_of-self-2 : goal.invariant_of-self-2
 invariant_of-self-2 g c =
@@ -45,8 +45,8 @@ invariant_of-self-2 g c =
     let e = c.in_ok-frame.ensures in
     record {
       sound = sound_after g.T.Tlb.meaning g.F.FrameAllocator.meaning _ _ (seen s) _ _ (λ b n out. f.small b n (f.within b n out)) s.sound
-          (begun g.T.Tlb.meaning g.F.FrameAllocator.meaning (mapping s.table) (fill_of s.fills) (fill_of c.add.new.self) (seen s) (record { tlb = s.tlb; frames = c.allocate.new.self }) c.args.address c.of_address-page.result.number c.in_ok-frame.frame
-          c.of_address-page.ensures none c.in_ok-admits.ensures added.1 e.takes e.step e.stock refl);
+          (begun g.T.Tlb.meaning g.F.FrameAllocator.meaning (mapping s.table) (fill_of s.fills) (fill_of c.add.new.self) (seen s) _ c.args.address c.of_address-page.result.number c.in_ok-frame.frame
+          c.of_address-page.ensures none c.in_ok-admits.ensures added.1 (search (rules, e)) (search (rules, e)) (search (rules, e)) (search rules));
     }
 
 pub returns-clause-law : goal.returns-clause-law
@@ -56,5 +56,5 @@ returns-clause-law g c =
     let none = sym c.lookup.ensures ∙ not_mapped c.lookup.result (sym c.is_some.ensures ∙ c.if-is_some.false) in
     let e = c.in_ok-frame.ensures in
     lawful s _ _ (λ b n out. f.small b n (f.within b n out))
-    (begun g.T.Tlb.meaning g.F.FrameAllocator.meaning (mapping s.table) (fill_of s.fills) (fill_of c.add.new.self) (seen s) (record { tlb = s.tlb; frames = c.allocate.new.self }) c.args.address c.of_address-page.result.number c.in_ok-frame.frame
-    c.of_address-page.ensures none c.in_ok-admits.ensures c.in_ok-add.ensures.1 e.takes e.step e.stock refl)
+    (begun g.T.Tlb.meaning g.F.FrameAllocator.meaning (mapping s.table) (fill_of s.fills) (fill_of c.add.new.self) (seen s) _ c.args.address c.of_address-page.result.number c.in_ok-frame.frame
+    c.of_address-page.ensures none c.in_ok-admits.ensures c.in_ok-add.ensures.1 (search (rules, e)) (search (rules, e)) (search (rules, e)) (search rules))

@@ -1,4 +1,4 @@
-use Rattle.std.proofs.Common.{Some, refl, ap}
+use Rattle.std.proofs.Common.{refl, ap, rules}
 use Rattle.table.specs.Table.{mapping}
 use Rattle.fills.specs.Fills.{fill_of}
 use Rattle.law.specs.PageMap.{frame_of}
@@ -21,9 +21,9 @@ invariant_of-self-2 g c =
     let out = s.sound.is_out x.frame p (ap (λ o. frame_of o (fill_of s.fills p)) here) in
     record {
       sound = sound_after g.T.Tlb.meaning k (page_map s) _ (seen s) _ _ (λ b n o. f.small b n (f.within b n o)) s.sound
-          (released_one g.T.Tlb.meaning k (mapping s.table) (mapping c.unmap.new.self) (fill_of s.fills) (seen s) (record { tlb = c.purge.new.self; frames = c.free.new.self }) c.args.address p x c.of_address-page.ensures here maps
-          (freed g.T.Tlb.meaning k s.frames c.free.new.self x.frame c.free.result c.free.ensures.gives c.free.ensures.step c.free.ensures.stock out)
-          (record { step = c.purge.ensures.step; gone = c.purge.ensures.gone; within = c.purge.ensures.within }));
+          (released_one g.T.Tlb.meaning k (mapping s.table) (mapping c.unmap.new.self) (fill_of s.fills) (seen s) _ c.args.address p x c.of_address-page.ensures here maps
+          (freed g.T.Tlb.meaning k s.frames c.free.new.self x.frame c.free.result (search (rules, c.free.ensures)) (search (rules, c.free.ensures)) (search (rules, c.free.ensures)) out)
+          (search (rules, c.purge.ensures)));
     }
 
 pub returns-in_err-free-clause-law : goal.returns-in_err-free-clause-law
@@ -54,6 +54,6 @@ returns-clause-law g c =
     let (here, maps) = c.in_ok-translation.ensures.held in
     let e = c.in_ok-free.ensures in
     lawful s _ _ (λ b n o. f.small b n (f.within b n o))
-    (released_one g.T.Tlb.meaning k (mapping s.table) (mapping c.unmap.new.self) (fill_of s.fills) (seen s) (record { tlb = c.purge.new.self; frames = c.free.new.self }) c.args.address p x c.of_address-page.ensures here maps
-    (record { step = e.step; gives = e.gives; stock_stays = e.stock })
-    (record { step = c.purge.ensures.step; gone = c.purge.ensures.gone; within = c.purge.ensures.within }))
+    (released_one g.T.Tlb.meaning k (mapping s.table) (mapping c.unmap.new.self) (fill_of s.fills) (seen s) _ c.args.address p x c.of_address-page.ensures here maps
+    (record { step = search (rules, e); gives = search (rules, e); stock_stays = search (rules, e) })
+    (search (rules, c.purge.ensures)))

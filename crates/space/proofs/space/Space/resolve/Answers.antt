@@ -1,4 +1,4 @@
-use Rattle.std.proofs.Common.{refl, sym, ap, ◌∙◌}
+use Rattle.std.proofs.Common.{refl, sym, ap, ◌∙◌, rules}
 use Rattle.table.specs.Table.{mapping}
 use Rattle.words.specs.Reading.{said}
 use Rattle.words.specs.Words.{form_of, bits_of}
@@ -22,7 +22,7 @@ pub returns-in-Some : goal.returns-in-Some
 returns-in-Some g c =
     let s = c.args.self.now in
     let e = c.in-Some.ensures in
-    ((refl, refl, refl), hit g.T.Tlb.meaning g.F.FrameAllocator.meaning (mapping s.table) s.tlb c.probe.new.self c.args.page.number c.in-Some.translation s.sound.coherent e.step e.answer e.within)
+    ((refl, refl, refl), hit g.T.Tlb.meaning g.F.FrameAllocator.meaning (mapping s.table) s.tlb c.probe.new.self c.args.page.number c.in-Some.translation s.sound.coherent (search (rules, e)) (search (rules, e)) (search (rules, e)))
 
 pub invariant_of-self-in-Break-1 : goal.invariant_of-self-in-Break-1
 invariant_of-self-in-Break-1 g c =
@@ -46,7 +46,7 @@ invariant_of-self-2 g c =
           (looked_coherent t k (mapping s.table) _ s.tlb c.args.page.number c.in_ok-translation.translation c.load.new.self
           (filled t k (mapping s.table) s.tlb c.probe.new.self c.load.new.self c.args.page.number w (record { page = c.args.page; word = w.word }) c.in_ok-translation.translation refl refl c.in_ok-word.ensures.word
           (sym (walk_says (mapping s.table) c.args.page.number w c.in_ok-word.ensures.word) ∙ ap (said (form_of w.word) (bits_of w.word)) (sym c.offset.ensures) ∙ sym c.read.ensures ∙ c.in_ok-translation.ensures.ok_part)
-          (record { probed = e.step; lacks = e.answer; within = e.within }) c.load.ensures.step c.load.ensures.loads) s.sound.coherent) refl;
+          (search (rules, e)) (search (rules, c.load.ensures)) (search (rules, c.load.ensures))) s.sound.coherent) refl;
     }
 
 pub returns : goal.returns
@@ -59,5 +59,5 @@ returns g c =
       (refl, refl, refl),
       filled t k (mapping s.table) s.tlb c.probe.new.self c.load.new.self c.args.page.number w (record { page = c.args.page; word = w.word }) c.in_ok-translation.translation refl refl c.in_ok-word.ensures.word
           (sym (walk_says (mapping s.table) c.args.page.number w c.in_ok-word.ensures.word) ∙ ap (said (form_of w.word) (bits_of w.word)) (sym c.offset.ensures) ∙ sym c.read.ensures ∙ c.in_ok-translation.ensures.ok_part)
-          (record { probed = e.step; lacks = e.answer; within = e.within }) c.load.ensures.step c.load.ensures.loads,
+          (search (rules, e)) (search (rules, c.load.ensures)) (search (rules, c.load.ensures)),
     )

@@ -1,4 +1,4 @@
-use Rattle.std.proofs.Common.{refl, sym, ap, ◌∙◌, arith}
+use Rattle.std.proofs.Common.{refl, sym, ap, ◌∙◌, arith, rules}
 use Rattle.table.specs.Table.{mapping}
 use Rattle.fills.specs.Fills.{fill_of}
 use Rattle.law.proofs.Steps.{fill_at}
@@ -21,8 +21,8 @@ returns-in_err-map-clause-law g c =
     let f = g.met.F.FrameAllocator in
     let here = sym c.find.ensures ∙ found c.find.result c.args.underway c.ne.result c.ne.ensures c.if-ne.false in
     lawful s _ _ (λ b n out. f.small b n (f.within b n out))
-    (unsettled g.T.Tlb.meaning g.F.FrameAllocator.meaning (mapping s.table) (mapping c.map.new.self) (fill_of s.fills) (seen s) c.args.page c.args.underway c.args.attributes _ c.in_err-map.field-0.0 c.from_residual.result
-    (s.sound.waits c.args.underway c.args.page.number here) c.in_err-map.ensures.held.0 refl refl here c.from_residual.ensures.1 (ap mapping c.in_err-map.ensures.held.1))
+    (unsettled g.T.Tlb.meaning g.F.FrameAllocator.meaning (mapping s.table) (mapping c.map.new.self) (fill_of s.fills) (seen s) _ c.args.page c.args.underway c.args.attributes _ c.in_err-map.field-0.0 c.from_residual.result
+    (s.sound.waits c.args.underway c.args.page.number here) c.in_err-map.ensures.held.0 refl refl here c.from_residual.ensures.1 (ap mapping c.in_err-map.ensures.held.1) (search rules))
 
 pub returns-in_err-map-clause-leaves : goal.returns-in_err-map-clause-leaves
 returns-in_err-map-clause-leaves g c =
@@ -35,9 +35,9 @@ invariant_of-self-2 g c =
     let here = sym c.find.ensures ∙ found c.find.result c.args.underway c.ne.result c.ne.ensures c.if-ne.false in
     let (_, gone) = only_ok g.T.Tlb.meaning g.F.FrameAllocator.meaning _ _ c.remove.result c.remove.ensures (λ e q. q.0 here) in
     record {
-      sound = sound_after g.T.Tlb.meaning g.F.FrameAllocator.meaning (page_map s) _ (seen s) (seen s) _ (λ b n out. f.small b n (f.within b n out)) s.sound
-          (settled g.T.Tlb.meaning g.F.FrameAllocator.meaning (mapping s.table) (mapping c.map.new.self) (fill_of s.fills) (fill_of c.remove.new.self) (seen s) c.args.page c.args.underway c.args.attributes _
-          c.in_ok-map.ensures.held.0 refl refl here c.in_ok-map.ensures.held.1 gone.1);
+      sound = sound_after g.T.Tlb.meaning g.F.FrameAllocator.meaning (page_map s) _ (seen s) _ _ (λ b n out. f.small b n (f.within b n out)) s.sound
+          (settled g.T.Tlb.meaning g.F.FrameAllocator.meaning (mapping s.table) (mapping c.map.new.self) (fill_of s.fills) (fill_of c.remove.new.self) (seen s) _ c.args.page c.args.underway c.args.attributes _
+          c.in_ok-map.ensures.held.0 (search rules) (search rules) here c.in_ok-map.ensures.held.1 gone.1 (search rules));
     }
 
 pub returns-in_err-remove-clause-law : goal.returns-in_err-remove-clause-law
@@ -56,5 +56,5 @@ returns-clause-law g c =
     let f = g.met.F.FrameAllocator in
     let here = sym c.find.ensures ∙ found c.find.result c.args.underway c.ne.result c.ne.ensures c.if-ne.false in
     lawful s _ _ (λ b n out. f.small b n (f.within b n out))
-    (settled g.T.Tlb.meaning g.F.FrameAllocator.meaning (mapping s.table) (mapping c.map.new.self) (fill_of s.fills) (fill_of c.remove.new.self) (seen s) c.args.page c.args.underway c.args.attributes _
-    c.in_ok-map.ensures.held.0 refl refl here c.in_ok-map.ensures.held.1 c.in_ok-remove.ensures.1)
+    (settled g.T.Tlb.meaning g.F.FrameAllocator.meaning (mapping s.table) (mapping c.map.new.self) (fill_of s.fills) (fill_of c.remove.new.self) (seen s) _ c.args.page c.args.underway c.args.attributes _
+    c.in_ok-map.ensures.held.0 (search rules) (search rules) here c.in_ok-map.ensures.held.1 c.in_ok-remove.ensures.1 (search rules))

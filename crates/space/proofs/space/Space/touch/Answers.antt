@@ -1,4 +1,4 @@
-use Rattle.std.proofs.Common.{sym, refl, ◌∙◌}
+use Rattle.std.proofs.Common.{rules}
 use Rattle.table.specs.Table.{mapping}
 use Rattle.fills.specs.Fills.{fill_of}
 use Rattle.space.specs.Space.{seen}
@@ -13,7 +13,7 @@ returns-then-not-allows-clause-law g c =
     let (same, looked) = c.in_ok-translation.ensures in
     looked_lawful s u _ (λ b n o. f.small b n (f.within b n o)) same
     (denied g.T.Tlb.meaning g.F.FrameAllocator.meaning (mapping s.table) (fill_of s.fills) (seen s) (seen u) c.args.address c.of_address.result.number c.args.access c.in_ok-access.access c.of_address.ensures c.in_ok-access.ensures same.2
-    c.in_ok-translation.translation c.in_ok-translation.mark looked (sym c.allows.ensures ∙ c.if-not-allows.true))
+    c.in_ok-translation.translation c.in_ok-translation.mark looked (search (rules, c.if-not-allows.ensures)))
 
 pub returns-clause-law : goal.returns-clause-law
 returns-clause-law g c =
@@ -23,4 +23,4 @@ returns-clause-law g c =
     let (same, looked) = c.in_ok-translation.ensures in
     looked_lawful s u _ (λ b n o. f.small b n (f.within b n o)) same
     (touched g.T.Tlb.meaning g.F.FrameAllocator.meaning (mapping s.table) (fill_of s.fills) (seen s) (seen u) c.args.address c.of_address.result.number c.args.access c.in_ok-access.access c.of_address.ensures c.in_ok-access.ensures same.2
-    c.in_ok-translation.translation c.in_ok-translation.mark looked _ (sym c.allows.ensures ∙ c.if-not-allows.false) c.physical.ensures refl)
+    c.in_ok-translation.translation c.in_ok-translation.mark looked _ (search (rules, c.if-not-allows.ensures)) (search rules) (search rules))
