@@ -1,6 +1,8 @@
 /*
  * The word reader against a second one that was written from the formats with masks and shifts.
- * Words are drawn near the formats: sound ones, sound ones with one bit flipped, and random ones.
+ * Words are drawn near the formats: sound ones, sound ones with one bit flipped, and random ones. Forms and offsets are mostly sound;
+ * others are small, or past 2^8, 2^16, 2^31 and so on up to 2^63, with low bits that alone would be sound: a reader or a header that takes
+ * fewer bits of them is found out.
  */
 #include <inttypes.h>
 #include <stdio.h>
@@ -41,6 +43,41 @@ static uint64_t draw(void)
     return state;
 }
 
+/* A number whose low bits are drawn below the limit, and which has one high bit or the upper half set. */
+static uint64_t draw_far(uint64_t limit)
+{
+    static const uint64_t far[] = {
+        UINT64_C(1) << 8,  UINT64_C(1) << 16, UINT64_C(1) << 31, UINT64_C(1) << 32,
+        UINT64_C(1) << 33, UINT64_C(1) << 48, UINT64_C(1) << 63, UINT64_C(0xFFFFFFFF) << 32,
+    };
+
+    return far[draw() % (sizeof far / sizeof far[0])] + draw() % limit;
+}
+
+static uint64_t draw_form(void)
+{
+    switch (draw() % 32) {
+    case 0:
+        return draw() % 300;
+    case 1:
+        return draw_far(4);
+    default:
+        return 1 + draw() % 2;
+    }
+}
+
+static uint64_t draw_offset(void)
+{
+    switch (draw() % 32) {
+    case 0:
+        return draw() % 300;
+    case 1:
+        return draw_far(20);
+    default:
+        return draw() % 16;
+    }
+}
+
 static uint64_t draw_word(uint64_t form)
 {
     uint64_t word = draw();
@@ -59,9 +96,9 @@ int main(void)
     uint64_t translated = 0, absent = 0, bad = 0;
 
     for (int i = 0; i < CASES; i++) {
-        uint64_t form = draw() % 16 ? 1 + draw() % 2 : draw() % 300;
+        uint64_t form = draw_form();
         uint64_t word = draw_word(form);
-        uint64_t offset = draw() % 32 ? draw() % 16 : draw() % 300;
+        uint64_t offset = draw_offset();
         uint64_t expected = by_masks(form, word, offset);
         uint64_t answer = joistolive_read_word(form, word, offset);
 

@@ -25,10 +25,14 @@ pub fn two_level_means<A: Tlb, B: Tlb>()
 
 #[tactic(auto, using(crate::proofs::Levels::same_levels, crate::proofs::Loads::same_one_page, crate::proofs::Loads::same_partial))]
 pub fn one_page_first_means()
-    ensures { SameMeaning ⟦<TwoLevelTlb<OnePageTlb, PartialSubblockTlb> as Tlb>⟧.meaning (two_level one_page partial_subblock) }
+    ensures { SameMeaning
+        ⟦<TwoLevelTlb<OnePageTlb, PartialSubblockTlb> as Tlb>⟧.meaning
+        (two_level one_page partial_subblock) }
 {}
 
 #[tactic(auto, using(crate::proofs::Levels::same_levels, crate::proofs::Loads::same_one_page, crate::proofs::Loads::same_partial))]
 pub fn partial_subblock_first_means()
-    ensures { SameMeaning ⟦<TwoLevelTlb<PartialSubblockTlb, OnePageTlb> as Tlb>⟧.meaning (two_level partial_subblock one_page) }
+    ensures { SameMeaning
+        ⟦<TwoLevelTlb<PartialSubblockTlb, OnePageTlb> as Tlb>⟧.meaning
+        (two_level partial_subblock one_page) }
 {}

@@ -23,14 +23,16 @@ trait BlockSlot {
     // Whether the slot holds a page of the block at one of the offsets.
     fn overlaps(&self, block: Block, offsets: OffsetSet) -> bool;
 
-    // Clears the offsets in their place; a slot without offsets becomes empty.
+    // Clears the offsets in the slot, of whatever block it is; one that loses its last page becomes empty.
     fn clear(&mut self, offsets: OffsetSet);
 }
 
 impl BlockSlot for Option<PartialSlot> {
     #[tactic(auto, using(crate::specs::Clearing::meeting_slot))]
     fn overlaps(&self, block: Block, offsets: OffsetSet) -> bool
-        ensures { MatchBool result (HoldsSome (of_block block.number offsets.bits) self.now) (HoldsSome (of_block block.number offsets.bits) self.now → ⊥) }
+        ensures { MatchBool result
+            (HoldsSome (of_block block.number offsets.bits) self.now)
+            (HoldsSome (of_block block.number offsets.bits) self.now → ⊥) }
     {
         match self {
             Some(PartialSlot::Subblock { block: own, word }) => *own == block

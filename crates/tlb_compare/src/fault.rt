@@ -7,7 +7,6 @@ use words::BadNumber;
 pub enum Fault {
     // No page or no entry has the numbers of the call.
     BadNumbers,
-    Differs,
     NoMemory,
 }
 
@@ -23,20 +22,27 @@ impl From<BadNumber> for Fault {
     }
 }
 
-// A fault at a call, the first of which is 0.
+// Where a comparison stops; the first call is 0.
 #[derive(Clone, Copy)]
-pub struct Stop {
-    pub call: u32,
-    pub fault: Fault,
+pub enum Stop {
+    Faulty { call: u32, fault: Fault },
+    Differs { call: u32 },
 }
 
 impl fmt::Display for Stop {
     fn fmt<W: fmt::Write>(&self, f: &mut fmt::Formatter<W>) -> fmt::Result {
-        let call = self.call;
-        match self.fault {
-            Fault::BadNumbers => write!(f, "the numbers of call {call} are bad"),
-            Fault::Differs => write!(f, "call {call} is answered otherwise than by the model"),
-            Fault::NoMemory => write!(f, "no memory at call {call}"),
+        match *self {
+            Stop::Faulty {
+                call,
+                fault: Fault::BadNumbers,
+            } => write!(f, "the numbers of call {call} are bad"),
+            Stop::Faulty {
+                call,
+                fault: Fault::NoMemory,
+            } => write!(f, "no memory at call {call}"),
+            Stop::Differs { call } => {
+                write!(f, "call {call} is answered otherwise than by the model")
+            }
         }
     }
 }

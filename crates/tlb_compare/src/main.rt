@@ -1,9 +1,11 @@
 // Compares each TLB with a plain model of it on pseudo-random calls.
 #![tactic(auto)]
 
+mod answers;
 mod calls;
 mod compare;
 mod fault;
+mod forgetful;
 mod model;
 mod pairs;
 mod plain;
@@ -13,6 +15,7 @@ mod slots;
 use anyhow::anyhow;
 use compare::{CALLS, compare};
 use fault::Stop;
+use forgetful::ForgetfulTlb;
 use model::{OnePage, PartialSubblock, SlotModel, TwoLevelModel};
 use tlb::{OnePageTlb, PartialSubblockTlb, TwoLevelTlb};
 
@@ -22,12 +25,12 @@ fn main(rt: HostRuntime) -> anyhow::Result<()> {
 
 fn run(rt: &HostRuntime) -> anyhow::Result<()> {
     let heap = rt.alloc();
-    report(
+    agree(
         rt,
         "one-page",
         compare(OnePageTlb::new(), SlotModel::new(heap, OnePage)),
     )?;
-    report(
+    agree(
         rt,
         "partial-subblock",
         compare(
@@ -40,7 +43,7 @@ fn run(rt: &HostRuntime) -> anyhow::Result<()> {
         SlotModel::new(heap, OnePage),
         SlotModel::new(heap, PartialSubblock),
     );
-    report(
+    agree(
         rt,
         "one-page over partial-subblock",
         compare(two, two_model),
@@ -50,25 +53,44 @@ fn run(rt: &HostRuntime) -> anyhow::Result<()> {
         SlotModel::new(heap, PartialSubblock),
         SlotModel::new(heap, OnePage),
     );
-    report(
+    agree(
         rt,
         "one-page over partial-subblock over one-page",
         compare(
             TwoLevelTlb::new(OnePageTlb::new(), below),
             TwoLevelModel::new(SlotModel::new(heap, OnePage), below_model),
         ),
+    )?;
+    let forgetful = ForgetfulTlb {
+        tlb: OnePageTlb::new(),
+    };
+    differ(
+        rt,
+        "one-page, all forgotten at a purge",
+        compare(forgetful, SlotModel::new(heap, OnePage)),
     )
+}
+
+fn agree(rt: &HostRuntime, name: &str, outcome: Result<u32, Stop>) -> anyhow::Result<()> {
+    report(rt, name, outcome)?;
+    match outcome {
+        Ok(_) => Ok(()),
+        Err(_) => Err(anyhow!("the answers do not agree")),
+    }
+}
+
+fn differ(rt: &HostRuntime, name: &str, outcome: Result<u32, Stop>) -> anyhow::Result<()> {
+    report(rt, name, outcome)?;
+    match outcome {
+        Err(Stop::Differs { .. }) => Ok(()),
+        _ => Err(anyhow!("no difference was found")),
+    }
 }
 
 fn report(rt: &HostRuntime, name: &str, outcome: Result<u32, Stop>) -> anyhow::Result<()> {
     match outcome {
-        Ok(hits) => {
-            println!(rt; "{name}: {CALLS} calls, {hits} hits, agree")?;
-            Ok(())
-        }
-        Err(stop) => {
-            println!(rt; "{name}: {stop}")?;
-            Err(anyhow!("the comparison stopped"))
-        }
+        Ok(hits) => println!(rt; "{name}: {CALLS} calls, {hits} hits, agree")?,
+        Err(stop) => println!(rt; "{name}: {stop}")?,
     }
+    Ok(())
 }

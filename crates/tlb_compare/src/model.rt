@@ -1,12 +1,18 @@
 // What each TLB should do, over plain lists of pairs.
-ghost use Rattle.std.specs.Prelude.{◌≡◌, vec_len};
+ghost use Rattle.std.specs.Prelude.{◌≡◌, ◌==◌, cond, find, is_some, vec_len, IfOk};
+ghost use Rattle.std.specs.Option.{option_map};
+ghost use Rattle.tlb_compare.specs.Agreement.{Having};
 
 use crate::plain::{PlainEntry, PlainPair};
 use crate::slots::Slots;
 use std::alloc::{AllocError, Global};
 
 pub trait Model {
-    fn probe(&mut self, page: u64) -> Result<Option<PlainPair>, AllocError>;
+    // What the model has for each page.
+    ghost has: { Having Self };
+
+    fn probe(&mut self, page: u64) -> Result<Option<PlainPair>, AllocError>
+        ensures { IfOk result (λ answer. answer ≡ has self.old page) };
 
     fn load(&mut self, entry: PlainEntry, page: u64) -> Result<(), AllocError>;
 
@@ -80,6 +86,8 @@ impl<R: LoadRule> SlotModel<R> {
 }
 
 impl<R: LoadRule> Model for SlotModel<R> {
+    ghost has = { λ m p. option_map (λ h. h.pair) (find (λ h. h.pair.page == p) m.slots.pairs.held.items) };
+
     fn probe(&mut self, page: u64) -> Result<Option<PlainPair>, AllocError> {
         Ok(self.slots.pairs.pair(page))
     }
@@ -116,6 +124,8 @@ impl<M: Model, N: Model> TwoLevelModel<M, N> {
 }
 
 impl<M: Model, N: Model> Model for TwoLevelModel<M, N> {
+    ghost has = { λ m p. cond (is_some (M.has m.first p)) (M.has m.first p) (N.has m.second p) };
+
     fn probe(&mut self, page: u64) -> Result<Option<PlainPair>, AllocError> {
         if let Some(pair) = self.first.probe(page)? {
             return Ok(Some(pair));

@@ -1,8 +1,13 @@
 // Examples of the TLBs: more loads than slots, purges between, and three levels.
 #![tactic(auto)]
 
+mod counting;
+
+pub use counting::CountingTlb;
+
 #[cfg(test)]
 mod tests {
+    use crate::counting::CountingTlb;
     use std::test::Fail;
     use tlb::{Entry, OnePageTlb, PartialSubblockTlb, Tlb, TwoLevelTlb};
     use words::{CompactWord, FullWord, OffsetSet, Page, Translation, Word};
@@ -137,6 +142,30 @@ mod tests {
         assert_eq!(rt; frame_of(&mut tlb.second.second, 0x41), None);
         tlb.flush();
         assert_eq!(rt; frame_of(&mut tlb, 0x42), None);
+        Ok(())
+    }
+
+    #[test]
+    fn a_load_that_brings_nothing(rt: HostRuntime) -> Result<(), Fail> {
+        let mut tlb = CountingTlb {
+            tlb: OnePageTlb::new(),
+            loads: 0,
+        };
+        for number in 0..64u32 {
+            load_page(&mut tlb, number, 0x1000 + number, 3)?;
+        }
+        let other = Translation::new(9, 3).ok_or_else(|| Fail::new("out of range"))?;
+        let entry = Entry {
+            page: page(70),
+            word: Word::Full(FullWord::of_page(other)),
+        };
+        tlb.load(entry, page(71));
+        assert_eq!(rt; tlb.loads, 65, "it is counted");
+        assert_eq!(rt; frame_of(&mut tlb, 70), None);
+        assert_eq!(rt; frame_of(&mut tlb, 0), Some(0x1000), "it took no slot");
+        load_page(&mut tlb, 64, 7, 3)?;
+        assert_eq!(rt; frame_of(&mut tlb, 0), None, "the hand was still at slot 0");
+        assert_eq!(rt; frame_of(&mut tlb, 1), Some(0x1001));
         Ok(())
     }
 }
