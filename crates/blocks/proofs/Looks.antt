@@ -1,5 +1,5 @@
 -- A page that is looked up: the word that stands for it, what the reader answers from it, and its block's place.
-use Rattle.std.proofs.Common.{◌≡◌, ℕ, ◌<◌, true, ◌&&◌, eqb, ltb, Some, None, Option, Ok, Err, is_some, sym, refl, ap, ◌∙◌, subst, arith}
+use Rattle.std.proofs.Common.{◌≡◌, ℕ, ◌<◌, ◌≤◌, true, ◌&&◌, eqb, ltb, Some, None, Option, Ok, Err, is_some, sym, refl, ap, ◌∙◌, subst, arith}
 use Rattle.std.proofs.lemmas.Bool.{and_parts, and_from, eqb-true, eq-eqb, lt-ltb, le-leb, cond-true}
 use Rattle.words.specs.declared.compact.CompactWord.{CompactWord}
 use Rattle.words.specs.declared.full.FullWord.{FullWord}
@@ -71,27 +71,27 @@ module _ (s : Blocks) (p : ℕ) where
     pub found_place : place_of (order s) (block_of p) ≡ Some f.looked
     found_place = ap (place_of (order s)) (sym own) ∙ finds.place
 
-    walks : (v : Word) (t : Translation) → held s p ≡ Some t → StandsFor (held s) p (form_of v) (bits_of v) → said (form_of v) (bits_of v) (offset_of p) ≡ Some t → Walks (held s) p (record { word = v; looked = f.looked })
-    walks v t m w r = record {
+    walks : (n : ℕ) (v : Word) (t : Translation) → 1 ≤ n → n ≤ f.looked → held s p ≡ Some t → StandsFor (held s) p (form_of v) (bits_of v) → said (form_of v) (bits_of v) (offset_of p) ≡ Some t → Walks (held s) p (record { word = v; looked = n })
+    walks n v t low high m w r = record {
       mapped = (t, m);
       word = w;
       reads = read v (a_word v) (offset_of p) (omega arith) ∙ ap answer_of (r ∙ sym m);
-      some = finds.some;
+      some = low;
       most = (nodes_in s.chains (bucket_of (block_of p)), used_in, (let e = ap (λ d. nodes_in s.chains (bucket_of d)) own in let l = finds.most in omega arith));
     }
 
-    pub walks_word : (w : CompactWord) (v : Word) (t : Translation) → y ≡ body.Compact w → v ≡ Compact w → said (form_of v) (bits_of v) (offset_of p) ≡ Some t → Walks (held s) p (record { word = v; looked = f.looked })
-    walks_word w v t e i r =
+    pub walks_word : (n : ℕ) (w : CompactWord) (v : Word) (t : Translation) → 1 ≤ n → n ≤ f.looked → y ≡ body.Compact w → v ≡ Compact w → said (form_of v) (bits_of v) (offset_of p) ≡ Some t → Walks (held s) p (record { word = v; looked = n })
+    walks_word n w v t low high e i r =
         let here = found_body ∙ ap Some e in
-        walks v t (body_says (body.Compact w) here ∙ ap (λ u. said (form_of u) (bits_of u) (offset_of p)) (sym i) ∙ r)
+        walks n v t low high (body_says (body.Compact w) here ∙ ap (λ u. said (form_of u) (bits_of u) (offset_of p)) (sym i) ∙ r)
         (subst (λ u. StandsFor (held s) p (form_of u) (bits_of u)) (sym i) (block_word s (block_of p) w here)) r
 
-    pub walks_row : (r : RowNumber) (w : FullWord) (v : Word) (t : Translation) → y ≡ body.Row r → v ≡ Full w → w.bits ≡ page_word (row_pages s.rows.rows r.number (offset_of p))
-        → said (form_of v) (bits_of v) (offset_of p) ≡ Some t → Walks (held s) p (record { word = v; looked = f.looked })
-    walks_row r w v t e i bits said_t =
+    pub walks_row : (n : ℕ) (r : RowNumber) (w : FullWord) (v : Word) (t : Translation) → 1 ≤ n → n ≤ f.looked → y ≡ body.Row r → v ≡ Full w → w.bits ≡ page_word (row_pages s.rows.rows r.number (offset_of p))
+        → said (form_of v) (bits_of v) (offset_of p) ≡ Some t → Walks (held s) p (record { word = v; looked = n })
+    walks_row n r w v t low high e i bits said_t =
         let here = found_body ∙ ap Some e in
         let says : held s p ≡ row_pages s.rows.rows r.number (offset_of p) = body_says (body.Row r) here in
         let read : said form.Full w.bits (offset_of p) ≡ held s p = ap (λ x. said form.Full x (offset_of p)) bits ∙ full_says (row_pages s.rows.rows r.number (offset_of p)) (offset_of p) ∙ sym says in
-        walks v t (sym read ∙ ap (λ u. said (form_of u) (bits_of u) (offset_of p)) (sym i) ∙ said_t)
+        walks n v t low high (sym read ∙ ap (λ u. said (form_of u) (bits_of u) (offset_of p)) (sym i) ∙ said_t)
         (subst (λ u. StandsFor (held s) p (form_of u) (bits_of u)) (sym i)
         ((rowed s (block_of p) (ap (λ z. ltb (row_in z) 128) here ∙ lt-ltb r.number 128 r.within)).1, bits ∙ ap page_word (sym says))) said_t

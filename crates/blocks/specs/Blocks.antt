@@ -67,11 +67,11 @@ some_mapped m b (suc o) = is_some (m (page_at b o)) || some_mapped m b o
 abbrev pub is_used : Mapping → ℕ → Bool
 is_used m b = some_mapped m b 16
 
--- the order after m became n, which have the same pages but those of the block b: the block comes to the front of its bucket with its first
--- page, and is cut out with its last
+-- the order o of m once m is n, which differ in pages of the block b alone: the block comes to the front of its bucket with its first page,
+-- and is cut out with its last
 abbrev pub reordered : Mapping → Mapping → ℕ → Order → Order
 reordered m n b o = cond (is_used n b) (put_in (is_used m b) o b) (cut_out o b)
 
--- pages of the block b changed
+-- s became t, which differ in pages of the block b alone: what that makes of the order
 abbrev pub Reorders : Blocks → ℕ → Blocks → Type 0
 Reorders s b t = order t ≡ reordered (held s) (held t) b (order s)

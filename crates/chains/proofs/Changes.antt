@@ -118,12 +118,12 @@ three ls i j k a b d x y z =
     ∙ ap (λ f. at f k (link_number d)) (link_set (set ls i a) j b (omega arith) ∙ ap (λ f. at f j (link_number b)) (link_set ls i a x))
 
 -- the free nodes have run out: every node is linked
-pub all_linked : (c : Chains) → get_or c.links 320 None ≡ None → c.count ≡ 256
-all_linked c none = let g : 256 ≤ next_in c 320 = (let e = ap link_number none in omega arith) in c.counted ∙ many_all (is_linked (nodes_of c)) 256 (λ i l. ⊎_elim
+pub all_linked : (c : Chains) → get_or c.links 320 None ≡ None → Nodes c 256
+all_linked c none = let g : 256 ≤ next_in c 320 = (let e = ap link_number none in omega arith) in sym (sym (count_all c) ∙ c.counted ∙ many_all (is_linked (nodes_of c)) 256 (λ i l. ⊎_elim
     (λ t. t)
     (λ f. absurd (on_not_off i [] (subst (λ k. on i k ≡ true) (over (next_in c) (home_in c) 64 (next_in c 320) (c.sound 64 (omega arith)) g)
     (subst (λ k. on i (chain_from (next_in c) k) ≡ true) (cond-false (is_linked (nodes_of c) i) (bucket_of (block_in c i)) 64 f) (c.kept i l))) tt))
-    (cases_Bool (is_linked (nodes_of c) i)))
+    (cases_Bool (is_linked (nodes_of c) i))))
 
 -- a node is free, so not every node is linked
 pub some_free : (c : Chains) (i : ℕ) → get_or c.links 320 None ≡ Some i → i < 256 → Nodes c 256 → ⊥

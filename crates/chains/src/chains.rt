@@ -104,7 +104,7 @@ impl Chains {
     }
 
     // Writes what is held of the block, on a new node where it has none.
-    #[tactic(auto, using(crate::proofs::Held::count_all, crate::proofs::Held::found_held, crate::proofs::Changes::all_linked, crate::proofs::Changes::some_free))]
+    #[tactic(auto, using(crate::proofs::Held::found_held, crate::proofs::Changes::all_linked, crate::proofs::Changes::some_free))]
     pub fn insert(&mut self, block: Block, body: Body) -> Result<(), NoNode>
         ensures held { MatchResult result
             (λ _. Accepted (insert_refusals self.old block.number) × Puts self.old block.number (Some body) self.new)
