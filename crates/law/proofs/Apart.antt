@@ -1,5 +1,5 @@
 -- No frame is at two places after a run, and a walk leads to what the page was given last.
-use Rattle.std.proofs.Common.{◌≡◌, ℕ, ◌^◌, ◌<◌, true, List, [], ◌∷◌, Some, None, Option, Ok, Err, refl, sym, ap, ◌∙◌, subst, ⊎_elim, arith}
+use Rattle.std.proofs.Common.{◌≡◌, ℕ, List, [], ◌∷◌, Some, None, Option, Ok, Err, refl, sym, ap, ◌∙◌, subst, ⊎_elim}
 use Rattle.std.proofs.lemmas.Bool.{cases_eq}
 use Rattle.std.proofs.lemmas.Option.{none-some}
 use Rattle.std.specs.Option.{option_map}
@@ -15,14 +15,13 @@ use Rattle.blocks.specs.Blocks.{Walks}
 use Rattle.chains.proofs.Linking.{at_here, at_there}
 use Rattle.tlb.specs.Meaning.{TlbMeaning}
 use Rattle.frames.specs.Meaning.{FramesMeaning}
-use Rattle.fills.specs.declared.underway.Underway.{Underway}
 use Rattle.table.specs.Calls.{unmapped}
 use Rattle.law.specs.declared.calls.Event.{Event}
 use Rattle.law.specs.declared.calls.Event.TheVariants as event
 use Rattle.law.specs.PageMap.{PageMap, nothing, next, next_pages, after, frame_of, frame_at}
-use Rattle.law.specs.Law.{State, Right, Sound}
+use Rattle.law.specs.Law.{State, Sound}
 use Rattle.law.specs.Runs.{Kept, SpaceRun, Apart, given_by, given_in, ReadsGiven, FramesApart}
-use Rattle.law.proofs.Points.{some_none, fill_frame}
+use Rattle.law.proofs.Points.{some_none}
 use Rattle.law.proofs.Steps.{fill_at}
 
 -- each mapped page has what it was given last

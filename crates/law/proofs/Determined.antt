@@ -43,7 +43,7 @@ use Rattle.law.specs.Calls.{call_of}
 use Rattle.law.specs.PageMap.{PageMap, next}
 use Rattle.law.specs.Refusals.{begin_refusals, settle_refusals, abandon_refusals, touch_refusals}
 use Rattle.law.specs.Law.{State, Marked, Right, Counted}
-use Rattle.law.specs.Determined.{fixed, taken_frame, SameButFree, OneRightAnswer}
+use Rattle.law.specs.Determined.{fixed, SameButFree, OneRightAnswer}
 
 first_step : (b c : Bool) (X Y Z : Type 0) (n k r : ℕ) → (b ≡ true → n ≡ r) → (c ≡ true → k ≡ r) → (Y → Z → n ≡ k) → MatchBool b X ((X → ⊥) × Y) → MatchBool c X ((X → ⊥) × Z) → n ≡ k
 first_step true true X Y Z n k r e f g x y = e refl ∙ sym (f refl)

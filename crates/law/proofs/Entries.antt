@@ -1,5 +1,5 @@
 -- The entry of a walk: what it says of each page is what the map has.
-use Rattle.std.proofs.Common.{◌≡◌, ℕ, true, cond, eqb, Some, None, Option, refl, sym, ap, ◌∙◌, inl, inr, ◌⊎◌, ⊎_elim, arith}
+use Rattle.std.proofs.Common.{◌≡◌, ℕ, true, cond, eqb, Some, None, Option, refl, sym, ap, ◌∙◌, inl, ◌⊎◌, arith}
 use Rattle.std.proofs.lemmas.Bool.{eqb-true, eq-eqb, cond-true}
 use Rattle.std.specs.Option.{MatchOption}
 use Rattle.std.specs.Result.{result_ok}

@@ -12,8 +12,8 @@ use Rattle.chains.proofs.Linking.{at_there}
 use Rattle.tlb.specs.Meaning.{TlbMeaning, Within}
 use Rattle.frames.specs.Meaning.{FramesMeaning}
 use Rattle.fills.specs.declared.underway.Underway.{Underway}
-use Rattle.fills.specs.Fills.{Waits, underway}
-use Rattle.table.specs.Calls.{mapped, protected}
+use Rattle.fills.specs.Fills.{underway}
+use Rattle.table.specs.Calls.{mapped}
 use Rattle.law.specs.declared.calls.Mark.{Mark}
 use Rattle.law.specs.declared.calls.Mark.TheVariants.{Hit, Missed}
 use Rattle.law.specs.declared.calls.Event.{Event}
@@ -21,8 +21,8 @@ use Rattle.law.specs.declared.calls.Event.TheVariants as event
 use Rattle.law.specs.declared.fault.BeginFault.TheVariants as begin
 use Rattle.law.specs.declared.fault.TouchFault.TheVariants as touch
 use Rattle.law.specs.PageMap.{PageMap, next, frame_of, frame_at}
-use Rattle.law.specs.Law.{State, Coherent, LookedUp, Purged, Refused, Begun, Settled, Abandoned, Right, Sound, Accounted}
-use Rattle.law.specs.Runs.{Kept, Stays}
+use Rattle.law.specs.Law.{State, Coherent, LookedUp, Purged, Begun, Settled, Abandoned, Right, Sound, Accounted}
+use Rattle.law.specs.Runs.{Stays}
 use Rattle.law.proofs.Entries.{says_within, loaded_from}
 use Rattle.law.proofs.Frames.{Placed, place_taken, place_given, place_moved, taken, given, moved}
 use Rattle.law.proofs.Points.{some_none, fill_frame, fill_frames, unfill_frames, settle_frames, release_frames, protect_frames, unfilled, fill_waits, unfill_waits, change_waits}

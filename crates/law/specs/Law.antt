@@ -1,6 +1,6 @@
 -- What is right of each call: its answer and what it does, by the page map before it.
 -- Throughout, t is what the TLB means, k what the allocator means, m the page map before the call, s the state before it and u the state after it.
-use Rattle.std.specs.Prelude.{◌≡◌, ℕ, ◌+◌, ◌*◌, ◌%◌, Bool, true, false, ◌⊎◌, List, Ok, Err, Some, None}
+use Rattle.std.specs.Prelude.{◌≡◌, ℕ, ◌+◌, ◌*◌, ◌%◌, true, false, ◌⊎◌, List, Ok, Err, Some, None}
 use Rattle.words.specs.declared.translation.Translation.{Translation}
 use Rattle.words.specs.Layout.{page_of}
 use Rattle.words.specs.Refusals.{First, Accepted}

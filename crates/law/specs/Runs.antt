@@ -1,8 +1,7 @@
 -- Runs of calls from a new space, and what follows of frames and of the miss handler.
-use Rattle.std.specs.Prelude.{◌≡◌, ◌≢◌, ℕ, ◌+◌, ◌*◌, List, [], ◌∷◌, map, take, drop, Ok, Option, Some, None}
+use Rattle.std.specs.Prelude.{◌≡◌, ◌≢◌, ℕ, ◌+◌, ◌*◌, List, [], ◌∷◌, map, take, drop, Ok, Some}
 use Rattle.words.specs.declared.translation.Translation.{Translation}
 use Rattle.words.specs.Layout.{page_of, offset_of}
-use Rattle.words.specs.Points.{at}
 use Rattle.words.specs.Reading.{translation, form_number, reading, answer_number}
 use Rattle.words.specs.Words.{form_of, bits_of}
 use Rattle.words.specs.Blocks.{Mapping}

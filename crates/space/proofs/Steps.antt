@@ -1,5 +1,5 @@
 -- One call: what the changes of its parts make of the map and of what holds.
-use Rattle.std.proofs.Common.{◌≡◌, ◌≢◌, ℕ, ◌+◌, ◌*◌, ◌%◌, ◌^◌, ◌<◌, Bool, true, false, not, eqb, is_some, List, [], ◌∷◌, Some, None, Option, Ok, Err, Result, MatchResult, refl, sym, ap, ap₂, ◌∙◌, subst, arith}
+use Rattle.std.proofs.Common.{◌≡◌, ◌≢◌, ℕ, ◌+◌, ◌*◌, ◌%◌, ◌^◌, ◌<◌, Bool, true, false, not, eqb, List, [], ◌∷◌, Some, None, Option, Ok, Err, Result, MatchResult, refl, sym, ap, ap₂, ◌∙◌, subst, arith}
 use Rattle.std.specs.Result.{IsErr, IsErrAnd}
 use Rattle.std.specs.Option.{option_eq, MatchOption}
 use Rattle.std.proofs.lemmas.Bool.{both_ways, eqb-true, not-false}
@@ -30,8 +30,8 @@ use Rattle.blocks.specs.Blocks.{Walks, NodesOut, RowsOut}
 use Rattle.fills.specs.declared.fault.AddFault.{AddFault}
 use Rattle.fills.specs.declared.fault.AddFault.TheVariants as add
 use Rattle.fills.specs.declared.underway.Underway.{Underway}
-use Rattle.fills.specs.Faults.{add_number, no_fill_number}
-use Rattle.fills.specs.Fills.{Waits, underway, add_refusals, remove_refusals}
+use Rattle.fills.specs.Faults.{add_number}
+use Rattle.fills.specs.Fills.{Waits, underway, add_refusals}
 use Rattle.table.specs.declared.fault.MapFault.{MapFault}
 use Rattle.table.specs.declared.fault.MapFault.TheVariants as map
 use Rattle.table.specs.declared.fault.NotMapped.{NotMapped}
@@ -46,15 +46,14 @@ use Rattle.law.specs.declared.calls.Touched.{Touched}
 use Rattle.law.specs.declared.fault.BeginFault.{BeginFault}
 use Rattle.law.specs.declared.fault.BeginFault.TheVariants as begin
 use Rattle.law.specs.declared.fault.SettleFault.{SettleFault}
-use Rattle.law.specs.declared.fault.TouchFault.{TouchFault}
 use Rattle.law.specs.declared.fault.TouchFault.TheVariants as touch
 use Rattle.law.specs.Faults.{settle_number, SettleFromMap}
 use Rattle.law.specs.PageMap.{PageMap, next}
-use Rattle.law.specs.Refusals.{BadAccess, settle_refusals}
-use Rattle.law.specs.Law.{State, Coherent, Allocated, NotAllocated, Freed, LookedUp, ProbedInVain, Purged, Right, Sound, Accounted}
+use Rattle.law.specs.Refusals.{BadAccess}
+use Rattle.law.specs.Law.{State, Coherent, Freed, LookedUp, ProbedInVain, Purged, Right, Sound, Accounted}
 use Rattle.law.proofs.Entries.{own_says}
 use Rattle.law.proofs.Points.{some_none, same_some}
-use Rattle.law.proofs.Steps.{is_none, fill_at, stays}
+use Rattle.law.proofs.Steps.{stays}
 use Rattle.space.specs.declared.fill.Fill.{Fill}
 use Rattle.space.specs.declared.space.Space.{Space}
 use Rattle.space.specs.Kept.{kept_map}

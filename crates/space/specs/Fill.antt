@@ -1,5 +1,4 @@
 -- The page of a fill, and what is kept of it.
-use Rattle.std.specs.Prelude.{ℕ}
 use Rattle.words.specs.declared.address.Page.{Page}
 use Rattle.fills.specs.declared.underway.Underway.{Underway}
 use Rattle.space.specs.declared.fill.Fill.{Fill}

@@ -1,5 +1,5 @@
 -- The page map of a space, and what its calls do by it. Throughout, s is the space before the call and u the space after it.
-use Rattle.std.specs.Prelude.{◌≡◌, ℕ, Ok, Err, Some, None, Result, MatchResult, IfErr}
+use Rattle.std.specs.Prelude.{◌≡◌, ℕ, Ok, Err, None, Result, MatchResult, IfErr}
 use Rattle.words.specs.declared.translation.Translation.{Translation}
 use Rattle.words.specs.Layout.{page_of}
 use Rattle.tlb.specs.declared.tlb.Tlb as tlb

@@ -1,7 +1,7 @@
 use Rattle.std.proofs.Common.{◌≡◌, ◌<◌, min, take, drop, map, length, refl, sym, ◌∙◌, subst, arith, ap}
 use Rattle.std.proofs.lemmas.List.{take_more_set}
 use Rattle.law.specs.Calls.{call_of}
-use Rattle.law.specs.PageMap.{nothing, after}
+use Rattle.law.specs.PageMap.{after}
 use Rattle.space.specs.Plain.{plain}
 use Rattle.space.proofs.Runs.{Runs, runs_none, runs_more, further, obeys}
 use Rattle.space.proofs.plain.replay.Goals as goal

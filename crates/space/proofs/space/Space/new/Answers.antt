@@ -1,4 +1,3 @@
-use Rattle.std.proofs.Common.{rules}
 use Rattle.law.proofs.Steps.{empty_sound}
 use Rattle.space.proofs.space.Space.new.Goals as goal
 
