@@ -6,6 +6,7 @@ use Rattle.words.specs.declared.address.Page.{Page}
 use Rattle.words.specs.declared.translation.Translation.{Translation}
 use Rattle.words.specs.declared.word.Word.{Word}
 use Rattle.words.specs.Layout.{page_of}
+use Rattle.words.specs.Points.{at}
 use Rattle.words.specs.Refusals.{First, Accepted}
 use Rattle.words.specs.Blocks.{StandsFor}
 use Rattle.words.specs.Words.{form_of, bits_of}
@@ -43,7 +44,7 @@ use Rattle.law.specs.Calls.{call_of}
 use Rattle.law.specs.PageMap.{PageMap, next}
 use Rattle.law.specs.Refusals.{begin_refusals, settle_refusals, abandon_refusals, touch_refusals}
 use Rattle.law.specs.Law.{State, Marked, Right, Counted}
-use Rattle.law.specs.Determined.{fixed, SameButFree, OneRightAnswer}
+use Rattle.law.specs.Determined.{fixed, taken_frame, SameButFree, OneRightAnswer}
 
 first_step : (b c : Bool) (X Y Z : Type 0) (n k r : ℕ) → (b ≡ true → n ≡ r) → (c ≡ true → k ≡ r) → (Y → Z → n ≡ k) → MatchBool b X ((X → ⊥) × Y) → MatchBool c X ((X → ⊥) × Z) → n ≡ k
 first_step true true X Y Z n k r e f g x y = e refl ∙ sym (f refl)
@@ -145,9 +146,59 @@ module _ {T E : Type 0} (rs : List (Type 0 × ℕ)) (number : E → ℕ) (P : T 
   both f g (Err e) (Ok x) a b = absurd (not_both rs (number e) b.is.0 a.is)
   both f g (Err e) (Err d) a b = subst (λ c. Q (Err e) (Err c)) (apart e d (first_once rs (number e) (number d) a.is b.is)) (g e)
 
+-- which frames are out after an event
+abbrev out_next : (ℕ → Bool) → Event → ℕ → Bool
+out_next out (event.Begin a (Ok f)) = at out f true
+out_next out (event.Abandon p fill (Ok f)) = at out fill.frame false
+out_next out (event.Release a (Ok x)) = at out x.frame false
+out_next out other = out
+
+module _ {A B : Type 0} (t : TlbMeaning A) (k : FramesMeaning B) (m : PageMap) (s u : State A B) where
+  -- a right event leaves the stock, and just these frames out
+  pub record Frames (e : Event) : Type 0 where
+    pub out : k.out u.frames ≡ out_next (k.out s.frames) e
+    pub stock : k.stock u.frames ≡ k.stock s.frames
+
+  same_state : (e : Event) → out_next (k.out s.frames) e ≡ k.out s.frames → u.frames ≡ s.frames → Frames e
+  same_state e none i = record { out = ap k.out i ∙ sym none; stock = ap k.stock i }
+
+  frames_after : (e : Event) → Right t k m s e u → Frames e
+  frames_after (event.Begin a (Ok f)) r = record { out = r.allocated.takes.3; stock = r.allocated.stock_stays }
+  frames_after (event.Begin a (Err begin.Mapped)) r = same_state _ refl (ap (λ v. v.frames) r.same)
+  frames_after (event.Begin a (Err begin.Waiting)) r = same_state _ refl (ap (λ v. v.frames) r.same)
+  frames_after (event.Begin a (Err begin.TooMany)) r = same_state _ refl (ap (λ v. v.frames) r.same)
+  frames_after (event.Begin a (Err begin.NoFrame)) r = record { out = r.allocated.takes.1; stock = r.allocated.stock_stays }
+  frames_after (event.Settle p fill x (Ok g)) r = same_state _ refl (ap (λ v. v.frames) r.same)
+  frames_after (event.Settle p fill x (Err e)) r = same_state _ refl (ap (λ v. v.frames) r.same)
+  frames_after (event.Abandon p fill (Ok g)) r = record { out = r.freed.gives.1; stock = r.freed.stock_stays }
+  frames_after (event.Abandon p fill (Err e)) r = same_state _ refl (ap (λ v. v.frames) r.same)
+  frames_after (event.Release a (Ok x)) r = record { out = r.freed.gives.1; stock = r.freed.stock_stays }
+  frames_after (event.Release a (Err e)) r = same_state _ refl (ap (λ v. v.frames) r.same)
+  frames_after (event.Protect a x (Ok y)) r = same_state _ refl r.same_frames
+  frames_after (event.Protect a x (Err e)) r = same_state _ refl (ap (λ v. v.frames) r.same)
+  frames_after (event.Touch a x (Ok y)) r = same_state _ refl r.same_frames
+  frames_after (event.Touch a x (Err touch.BadAccess)) r = same_state _ refl (ap (λ v. v.frames) r.same)
+  frames_after (event.Touch a x (Err touch.NotMapped)) r = same_state _ refl r.same_frames
+  frames_after (event.Touch a x (Err touch.Denied)) r = same_state _ refl r.same_frames
+  frames_after (event.Walk a (Ok w)) r = same_state _ refl (ap (λ v. v.frames) r.same)
+  frames_after (event.Walk a (Err e)) r = same_state _ refl (ap (λ v. v.frames) r.same)
+  frames_after (event.Census c) r = same_state _ refl (ap (λ v. v.frames) r.same)
+
+-- the answers alone
+record SameAnswer (m : PageMap) (out : ℕ → Bool) (e f : Event) : Type 0 where
+  answer : fixed e ≡ fixed f
+  pages : (next m e).pages ≡ (next m f).pages
+  fills : taken_frame e ≡ taken_frame f → (next m e).fills ≡ (next m f).fills
+  outs : taken_frame e ≡ taken_frame f → out_next out e ≡ out_next out f
+
 -- equal answers are one event
-same_event : (m : PageMap) (e f : Event) → e ≡ f → SameButFree m e f
-same_event m e f i = record { answer = ap fixed i; pages = ap (λ x. (next m x).pages) i; fills = λ _. ap (λ x. (next m x).fills) i }
+same_event : (m : PageMap) (out : ℕ → Bool) (e f : Event) → e ≡ f → SameAnswer m out e f
+same_event m out e f i = record {
+  answer = ap fixed i;
+  pages = ap (λ x. (next m x).pages) i;
+  fills = λ _. ap (λ x. (next m x).fills) i;
+  outs = λ _. ap (out_next out) i;
+}
 
 module _ {A B : Type 0} (t : TlbMeaning A) (k : FramesMeaning B) (m : PageMap) (s : State A B) where
   one_mark : (g h : Mark) (p : ℕ) → Marked t g s.tlb p → Marked t h s.tlb p → g ≡ h
@@ -237,35 +288,53 @@ module _ {A B : Type 0} (t : TlbMeaning A) (k : FramesMeaning B) (m : PageMap) (
   parted (event.Census r) = (r, refl)
 
   module _ (u v : State A B) where
-    of_call : (c : Call) (r q : AnswerTo c) → Right t k m s (with_answer c r) u → Right t k m s (with_answer c q) v → SameButFree m (with_answer c r) (with_answer c q)
-    of_call (call.Begin a) r q x y = both _ begin_number _ begin_apart (λ r q. SameButFree m (event.Begin a r) (event.Begin a q))
-        (λ f g i j. record { answer = refl; pages = refl; fills = λ e. ap (λ z. (next m (event.Begin a (Ok z))).fills) (same_Some f g e) }) (λ e. same_event m _ _ refl) r q (begun a u r x) (begun a v q y)
-    of_call (call.Settle p f x) r q y z = both _ settle_number _ settle_apart (λ r q. SameButFree m (event.Settle p f x r) (event.Settle p f x q))
-        (λ g h i j. same_event m _ _ (ap (λ z. event.Settle p f x (Ok z)) (i ∙ sym j))) (λ e. same_event m _ _ refl) r q (settled p f x u r y) (settled p f x v q z)
-    of_call (call.Abandon p f) r q y z = both _ abandon_number _ abandon_apart (λ r q. SameButFree m (event.Abandon p f r) (event.Abandon p f q))
-        (λ g h i j. same_event m _ _ (ap (λ z. event.Abandon p f (Ok z)) (i ∙ sym j))) (λ e. same_event m _ _ refl) r q (abandoned p f u r y) (abandoned p f v q z)
-    of_call (call.Release a) r q y z = both _ release_number _ release_apart (λ r q. SameButFree m (event.Release a r) (event.Release a q))
-        (λ g h i j. same_event m _ _ (ap (λ z. event.Release a (Ok z)) (same_Some g h (sym i ∙ j)))) (λ e. same_event m _ _ refl) r q (released a u r y) (released a v q z)
-    of_call (call.Protect a x) r q y z = both _ protect_number _ protect_apart (λ r q. SameButFree m (event.Protect a x r) (event.Protect a x q))
-        (λ g h (c, i, e) (d, j, f). same_event m _ _ (ap (λ z. event.Protect a x (Ok z)) (e ∙ ap (λ (z : Translation). z.attributes) (same_Some c d (sym i ∙ j)) ∙ sym f))) (λ e. same_event m _ _ refl) r q (protected a x u r y) (protected a x v q z)
-    of_call (call.Touch a x) r q y z = both _ touch_number _ touch_apart (λ r q. SameButFree m (event.Touch a x r) (event.Touch a x q))
+    of_call : (c : Call) (r q : AnswerTo c) → Right t k m s (with_answer c r) u → Right t k m s (with_answer c q) v → SameAnswer m (k.out s.frames) (with_answer c r) (with_answer c q)
+    of_call (call.Begin a) r q x y = both _ begin_number _ begin_apart (λ r q. SameAnswer m (k.out s.frames) (event.Begin a r) (event.Begin a q))
+        (λ f g i j. record {
+          answer = refl;
+          pages = refl;
+          fills = λ e. ap (λ z. (next m (event.Begin a (Ok z))).fills) (same_Some f g e);
+          outs = λ e. ap (λ z. at (k.out s.frames) z true) (same_Some f g e);
+        }) (λ e. same_event m (k.out s.frames) _ _ refl) r q (begun a u r x) (begun a v q y)
+    of_call (call.Settle p f x) r q y z = both _ settle_number _ settle_apart (λ r q. SameAnswer m (k.out s.frames) (event.Settle p f x r) (event.Settle p f x q))
+        (λ g h i j. same_event m (k.out s.frames) _ _ (ap (λ z. event.Settle p f x (Ok z)) (i ∙ sym j))) (λ e. same_event m (k.out s.frames) _ _ refl) r q (settled p f x u r y) (settled p f x v q z)
+    of_call (call.Abandon p f) r q y z = both _ abandon_number _ abandon_apart (λ r q. SameAnswer m (k.out s.frames) (event.Abandon p f r) (event.Abandon p f q))
+        (λ g h i j. same_event m (k.out s.frames) _ _ (ap (λ z. event.Abandon p f (Ok z)) (i ∙ sym j))) (λ e. same_event m (k.out s.frames) _ _ refl) r q (abandoned p f u r y) (abandoned p f v q z)
+    of_call (call.Release a) r q y z = both _ release_number _ release_apart (λ r q. SameAnswer m (k.out s.frames) (event.Release a r) (event.Release a q))
+        (λ g h i j. same_event m (k.out s.frames) _ _ (ap (λ z. event.Release a (Ok z)) (same_Some g h (sym i ∙ j)))) (λ e. same_event m (k.out s.frames) _ _ refl) r q (released a u r y) (released a v q z)
+    of_call (call.Protect a x) r q y z = both _ protect_number _ protect_apart (λ r q. SameAnswer m (k.out s.frames) (event.Protect a x r) (event.Protect a x q))
+        (λ g h (c, i, e) (d, j, f). same_event m (k.out s.frames) _ _ (ap (λ z. event.Protect a x (Ok z)) (e ∙ ap (λ (z : Translation). z.attributes) (same_Some c d (sym i ∙ j)) ∙ sym f))) (λ e. same_event m (k.out s.frames) _ _ refl) r q (protected a x u r y) (protected a x v q z)
+    of_call (call.Touch a x) r q y z = both _ touch_number _ touch_apart (λ r q. SameAnswer m (k.out s.frames) (event.Touch a x r) (event.Touch a x q))
         (λ g h (c, i, e, w) (d, j, f, n).
-        same_event m _ _ (ap₂ (λ b l. event.Touch a x (Ok (record { physical = b; mark = l })))
-        (e ∙ ap (λ (z : Translation). z.frame * 4096 + a % 4096) (same_Some c d (sym i ∙ j)) ∙ sym f) (one_mark g.mark h.mark (page_of a) w n))) (λ e. same_event m _ _ refl) r q (touched a x u r y) (touched a x v q z)
-    of_call (call.Walk a) r q y z = both _ (λ _. not_mapped_number) _ (λ e d i. refl) (λ r q. SameButFree m (event.Walk a r) (event.Walk a q))
-        (λ g h i j. record { answer = ap (λ w. event.Walk a (Ok (record { word = w; looked = 0 }))) (same_words (page_of a) g.word h.word i j); pages = refl; fills = λ e. refl }) (λ e. same_event m _ _ refl)
+        same_event m (k.out s.frames) _ _ (ap₂ (λ b l. event.Touch a x (Ok (record { physical = b; mark = l })))
+        (e ∙ ap (λ (z : Translation). z.frame * 4096 + a % 4096) (same_Some c d (sym i ∙ j)) ∙ sym f) (one_mark g.mark h.mark (page_of a) w n))) (λ e. same_event m (k.out s.frames) _ _ refl) r q (touched a x u r y) (touched a x v q z)
+    of_call (call.Walk a) r q y z = both _ (λ _. not_mapped_number) _ (λ e d i. refl) (λ r q. SameAnswer m (k.out s.frames) (event.Walk a r) (event.Walk a q))
+        (λ g h i j. record { answer = ap (λ w. event.Walk a (Ok (record { word = w; looked = 0 }))) (same_words (page_of a) g.word h.word i j); pages = refl; fills = λ e. refl; outs = λ e. refl }) (λ e. same_event m (k.out s.frames) _ _ refl)
         r q (walked a u r y) (walked a v q z)
-    of_call call.Census r q y z = same_event m _ _ (ap event.Census (counted u v r q y z))
+    of_call call.Census r q y z = same_event m (k.out s.frames) _ _ (ap event.Census (counted u v r q y z))
 
-    of_calls : (c d : Call) → c ≡ d → (r : AnswerTo c) (q : AnswerTo d) → Right t k m s (with_answer c r) u → Right t k m s (with_answer d q) v → SameButFree m (with_answer c r) (with_answer d q)
-    of_calls c d same r = subst (λ d. (q : AnswerTo d) → Right t k m s (with_answer c r) u → Right t k m s (with_answer d q) v → SameButFree m (with_answer c r) (with_answer d q)) same (λ q. of_call c r q)
+    of_calls : (c d : Call) → c ≡ d → (r : AnswerTo c) (q : AnswerTo d) → Right t k m s (with_answer c r) u → Right t k m s (with_answer d q) v → SameAnswer m (k.out s.frames) (with_answer c r) (with_answer d q)
+    of_calls c d same r = subst (λ d. (q : AnswerTo d) → Right t k m s (with_answer c r) u → Right t k m s (with_answer d q) v → SameAnswer m (k.out s.frames) (with_answer c r) (with_answer d q)) same (λ q. of_call c r q)
 
-    of_events : (e f : Event) → call_of e ≡ call_of f → Right t k m s e u → Right t k m s f v → SameButFree m e f
-    of_events e f same x y =
+    answers : (e f : Event) → call_of e ≡ call_of f → Right t k m s e u → Right t k m s f v → SameAnswer m (k.out s.frames) e f
+    answers e f same x y =
         let (r, i) = parted e in
         let (q, j) = parted f in
-        subst (λ g. SameButFree m g f) (sym i) (subst (λ g. SameButFree m (with_answer (call_of e) r) g) (sym j)
+        subst (λ g. SameAnswer m (k.out s.frames) g f) (sym i) (subst (λ g. SameAnswer m (k.out s.frames) (with_answer (call_of e) r) g) (sym j)
         (of_calls (call_of e) (call_of f) same r q (subst (λ g. Right t k m s g u) i x) (subst (λ g. Right t k m s g v) j y)))
+
+    of_events : (e f : Event) → call_of e ≡ call_of f → Right t k m s e u → Right t k m s f v → SameButFree k m e f u v
+    of_events e f same x y =
+        let a = answers e f same x y in
+        let b = frames_after t k m s u e x in
+        let c = frames_after t k m s v f y in
+        record {
+          answer = a.answer;
+          pages = a.pages;
+          fills = a.fills;
+          out = λ taken. b.out ∙ a.outs taken ∙ sym c.out;
+          stock = b.stock ∙ sym c.stock;
+        }
 
 pub one_right_answer : {A B : Type 0} (t : TlbMeaning A) (k : FramesMeaning B) → OneRightAnswer t k
 one_right_answer t k m s u v = of_events t k m s u v

@@ -1,5 +1,5 @@
 -- What holds of a space holds after each right event.
-use Rattle.std.proofs.Common.{◌≡◌, ℕ, ◌^◌, ◌<◌, true, Some, None, Option, Ok, Err, refl, sym, ap, ◌∙◌, subst, ⊎_elim, arith}
+use Rattle.std.proofs.Common.{◌≡◌, ℕ, ◌^◌, ◌<◌, true, Some, None, Option, Ok, Err, refl, sym, ap, ◌∙◌, subst, inl, ⊎_elim, arith}
 use Rattle.std.proofs.lemmas.Bool.{cases_eq}
 use Rattle.std.specs.Option.{option_map}
 use Rattle.words.specs.declared.translation.Translation.{Translation}
@@ -71,6 +71,15 @@ module _ {A B : Type 0} (t : TlbMeaning A) (k : FramesMeaning B) where
     where
       nowhere : (p : ℕ) → frame_at m p ≡ None
       nowhere p = ap (λ o. frame_of o (m.fills p)) (none p) ∙ ap fill_frame (unfilled p)
+
+  -- then the frames out are those of the start
+  pub empty_accounted : (start : B) (m : PageMap) → ((p : ℕ) → m.pages p ≡ None) → ((p : ℕ) → m.fills p ≡ None) → Accounted k start m start
+  empty_accounted start m none unfilled = record {
+    stock_stays = refl;
+    came = λ f o. inl o;
+    stays = λ f o. o;
+    own = λ f p e. absurd (some_none e (ap (λ o. frame_of o (m.fills p)) (none p) ∙ ap fill_frame (unfilled p)));
+  }
 
   module _ (m : PageMap) (s u : State A B) (d : Sound t k m s) where
     -- the page that waits is not mapped, and its frame is out

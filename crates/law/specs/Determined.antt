@@ -19,13 +19,16 @@ abbrev pub taken_frame : Event → Option ℕ
 taken_frame (event.Begin address (Ok frame)) = Some frame
 taken_frame other = None
 
--- one answer, and one map
-pub record SameButFree (m : PageMap) (e f : Event) : Type 0 where
-  pub answer : fixed e ≡ fixed f
-  pub pages : (next m e).pages ≡ (next m f).pages
-  pub fills : taken_frame e ≡ taken_frame f → (next m e).fills ≡ (next m f).fills
+-- one answer, one map, and the same frames out
+module _ {A B : Type 0} (k : FramesMeaning B) (m : PageMap) where
+  pub record SameButFree (e f : Event) (u v : State A B) : Type 0 where
+    pub answer : fixed e ≡ fixed f
+    pub pages : (next m e).pages ≡ (next m f).pages
+    pub fills : taken_frame e ≡ taken_frame f → (next m e).fills ≡ (next m f).fills
+    pub out : taken_frame e ≡ taken_frame f → k.out u.frames ≡ k.out v.frames
+    pub stock : k.stock u.frames ≡ k.stock v.frames
 
--- two right answers to one call, from the same map and state, are the same and leave the same map, but for what is free
+-- two right answers to one call, from the same map and state, are the same and leave the same map and the same frames out, but for what is free
 abbrev pub OneRightAnswer : {A B : Type 0} → TlbMeaning A → FramesMeaning B → Type 0
 OneRightAnswer {A} {B} t k =
-    (m : PageMap) (s u v : State A B) (e f : Event) → call_of e ≡ call_of f → Right t k m s e u → Right t k m s f v → SameButFree m e f
+    (m : PageMap) (s u v : State A B) (e f : Event) → call_of e ≡ call_of f → Right t k m s e u → Right t k m s f v → SameButFree k m e f u v

@@ -17,8 +17,8 @@ pub fn frames_are_apart<T: Tlb, F: FrameAllocator>()
     ensures { FramesApart T.Tlb.meaning F.FrameAllocator.meaning }
 {}
 
-// The law leaves nothing open but the frame that begin takes and how many nodes a walk looked at: neither in the answer of a call nor in
-// the map that it leaves.
+// The law leaves nothing open but the frame that begin takes and how many nodes a walk looked at: not in the answer of a call, nor in the
+// map that it leaves, nor in the frames that are out then. What it leaves in a TLB is for the TLB's own meaning to say.
 pub fn one_right_answer<T: Tlb, F: FrameAllocator>()
     ensures { OneRightAnswer T.Tlb.meaning F.FrameAllocator.meaning }
 {}

@@ -47,24 +47,15 @@ module _ {A B : Type 0} {t : tlb.Ghosts A} {k : allocator.Ghosts B} where
       }
 
   -- a run from a new space
-  pub obeys : (given : A) (frames : B) (s u : Space A B t k) (es : List Event) → page_map s ≡ nothing → t.meaning.flushed given s.tlb → s.frames ≡ frames → Runs s es u
+  pub obeys : (given : A) (frames : B) (s u : Space A B t k) (es : List Event) → page_map s ≡ nothing → t.meaning.flushed given s.tlb → s.frames ≡ frames → Accounted k.meaning frames (page_map s) s.frames → Runs s es u
       → Obeys t.meaning k.meaning given frames es (seen u)
-  obeys given frames s u es new flushed same r = record {
+  obeys given frames s u es new flushed same at_start r = record {
     first = s.tlb;
     flushed = flushed;
     empty = λ p x h. none-some x (sym (ap (λ n. n.pages p) new) ∙ s.sound.coherent p x h);
     run = subst (λ f. SpaceRun t.meaning k.meaning frames nothing (record { tlb = s.tlb; frames = f }) es (seen u)) same
         (subst (λ n. SpaceRun t.meaning k.meaning frames n (seen s) es (seen u)) new (r.run frames at_start));
   }
-    where
-      at_start : Accounted k.meaning frames (page_map s) s.frames
-      at_start = subst (λ n. Accounted k.meaning frames n s.frames) (sym new) (record {
-        stock_stays = ap k.meaning.stock same;
-        came = λ f o. inl (subst (λ b. k.meaning.out b f ≡ true) same o);
-        stays = λ f o. subst (λ b. k.meaning.out b f ≡ true) (sym same) o;
-        own = λ f p e. absurd (none-some f e);
-      })
-
 -- the first i calls have their events, and the other places are as they were
 pub record Sofar (calls : List Call) (before now : List Event) (i : ℕ) : Type 0 where
   pub long : length now ≡ length before

@@ -1,6 +1,7 @@
 // An address space whose fills are named by page and frame, as a list of calls or a caller in C has them.
 ghost use Rattle.std.specs.Prelude.{◌≡◌, min, length, take};
 ghost use Rattle.law.specs.Calls.{call_of};
+ghost use Rattle.law.specs.Law.{Accounted};
 ghost use Rattle.law.specs.PageMap.{nothing, after};
 ghost use Rattle.law.specs.Runs.{Obeys, Answered};
 ghost use Rattle.law.specs.declared.calls.Event.TheVariants as event;
@@ -32,6 +33,7 @@ impl<T: Tlb, F: FrameAllocator> PlainSpace<T, F> {
         ensures map { page_map (plain result) ≡ nothing }
         ensures flushed { T.Tlb.meaning.flushed tlb (tlb_of (plain result)) }
         ensures frames { frames_of (plain result) ≡ frames }
+        ensures accounted { Accounted F.FrameAllocator.meaning frames (page_map (plain result)) (frames_of (plain result)) }
     {
         PlainSpace {
             space: Space::new(tlb, frames),

@@ -1,6 +1,6 @@
 // The calls of an address space.
 ghost use Rattle.std.specs.Prelude.{◌≡◌};
-ghost use Rattle.law.specs.Law.{Sound};
+ghost use Rattle.law.specs.Law.{Sound, Accounted};
 ghost use Rattle.law.specs.PageMap.{nothing};
 ghost use Rattle.space.specs.Kept.{kept_map, state};
 
@@ -32,6 +32,7 @@ impl<T: Tlb, F: FrameAllocator> Space<T, F> {
         ensures map { page_map result ≡ nothing }
         ensures flushed { T.Tlb.meaning.flushed tlb (tlb_of result) }
         ensures frames { frames_of result ≡ frames }
+        ensures accounted { Accounted F.FrameAllocator.meaning frames (page_map result) (frames_of result) }
     {
         let mut tlb = tlb;
         tlb.flush();

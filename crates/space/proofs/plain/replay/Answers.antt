@@ -38,7 +38,7 @@ ran g c = subst (λ k. Runs (plain c.new-space.result) (take k c.loop-i.events) 
 pub returns-clause-law : goal.returns-clause-law
 returns-clause-law g c =
     let n = c.new-space.ensures in
-    obeys c.args.tlb c.args.frames (plain c.new-space.result) (plain c.loop-i.space) _ n.map n.flushed n.frames (ran g c)
+    obeys c.args.tlb c.args.frames (plain c.new-space.result) (plain c.loop-i.space) _ n.map n.flushed n.frames n.accounted (ran g c)
 
 pub returns-clause-map : goal.returns-clause-map
 returns-clause-map g c =
