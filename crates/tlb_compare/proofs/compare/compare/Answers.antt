@@ -1,5 +1,4 @@
-use Rattle.std.proofs.Common.{◌≡◌, cond, is_some, rules, arith}
-use Rattle.tlb_compare.specs.Agreement.{Agreed}
+use Rattle.std.proofs.Common.{◌≡◌, cond, is_some, rules}
 use Rattle.tlb_compare.specs.Agreement.Agreed.{none, next}
 use Rattle.tlb_compare.proofs.compare.compare.Goals as goal
 
