@@ -56,6 +56,7 @@ module _ {A B : Type 0} {t : tlb.Ghosts A} {k : allocator.Ghosts B} where
     run = subst (λ f. SpaceRun t.meaning k.meaning frames nothing (record { tlb = s.tlb; frames = f }) es (seen u)) same
         (subst (λ n. SpaceRun t.meaning k.meaning frames n (seen s) es (seen u)) new (r.run frames at_start));
   }
+
 -- the first i calls have their events, and the other places are as they were
 pub record Sofar (calls : List Call) (before now : List Event) (i : ℕ) : Type 0 where
   pub long : length now ≡ length before
