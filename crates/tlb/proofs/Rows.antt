@@ -158,7 +158,7 @@ pub record Comes {S : Type 0} (held : Holding S) (kept : Keeping S) (xs : List (
 module _ {S : Type 0} (held : Holding S) (kept : Keeping S) (room : MakesRoom S) (taken : TakesIn S) (laws : EnterLaws held kept room taken)
     (xs : List (Option S)) (h : Hand) (e : Entry) (p : ℕ) (t : Translation) (zs : List (Option S)) (g : Hand) (once : HeldOnce held xs) (keeps : kept xs ≡ true) (long : length xs ≡ 64) (says : entry_says e p ≡ Some t) where
   pub comes : Stored room taken xs h e p t zs g → Comes held kept xs e p t zs
-  comes (place, ys, u, made, took, set_so) = at_place place (laws.frees xs e p t place ys u once keeps says made took) (laws.says (slot_at ys place) e p t u says took) set_so
+  comes (place, ys, u, made, took, set_so) = at_place place (laws.frees xs e p t place ys u once keeps says made took) (laws.says xs e p t place ys u once keeps says made took) set_so
     where
       goes_to : (place : Option ℕ) (i : ℕ) → Goes place i → i < 64 → RoomFor held kept xs place ys u → Says held (slot_at ys place) e p t u → zs ≡ set ys i u → Comes held kept xs e p t zs
       goes_to place i goes l free said same = subst (Comes held kept xs e p t) (sym same) (record {

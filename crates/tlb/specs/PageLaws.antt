@@ -43,7 +43,7 @@ frees xs p t place ys u once (at, same) m = record {
 
 pub enters : EnterLaws page_held (λ xs. true) (λ xs e. PageRoom xs) (λ o e p t u. IsSomeAnd u (IsHeld p t))
 enters = record {
-  says = λ o e p t u s m. record {
+  says = λ xs e p t place ys u once k s r m. record {
     own = taken_own p t u m;
     within = λ q x h. let (a, b) = taken_held p q t x u m h in inr (ap (entry_says e) a ∙ s ∙ ap Some b);
   };

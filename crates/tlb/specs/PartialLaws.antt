@@ -90,7 +90,7 @@ frees xs e p t place ys u s (none, (long, each)) m =
 
 pub enters : EnterLaws block_held (λ xs. true) (λ xs e p. BlockRoom xs e) (λ o e p t u. IsSomeAnd u (IsSlot e p t))
 enters = record {
-  says = λ o e p t u s m. record {
+  says = λ xs e p t place ys u once k s r m. record {
     own = taken_says e p t u m s p ∙ s;
     within = λ q x h. inr (sym (taken_says e p t u m s q) ∙ h);
   };

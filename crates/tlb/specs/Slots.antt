@@ -99,6 +99,7 @@ pub record RoomFor {S : Type 0} (held : Holding S) (kept : Keeping S) (xs : List
 
 -- what a kind of slot shows of how an entry that says t of the page p comes into a row
 pub record EnterLaws {S : Type 0} (held : Holding S) (kept : Keeping S) (room : MakesRoom S) (taken : TakesIn S) : Type 0 where
-  pub says : (o : Option S) (e : Entry) (p : ℕ) (t : Translation) (u : Option S) → entry_says e p ≡ Some t → taken o e p t u → Says held o e p t u
+  pub says : (xs : List (Option S)) (e : Entry) (p : ℕ) (t : Translation) (place : Option ℕ) (ys : List (Option S)) (u : Option S)
+      → HeldOnce held xs → kept xs ≡ true → entry_says e p ≡ Some t → room xs e p place ys → taken (slot_at ys place) e p t u → Says held (slot_at ys place) e p t u
   pub frees : (xs : List (Option S)) (e : Entry) (p : ℕ) (t : Translation) (place : Option ℕ) (ys : List (Option S)) (u : Option S)
       → HeldOnce held xs → kept xs ≡ true → entry_says e p ≡ Some t → room xs e p place ys → taken (slot_at ys place) e p t u → RoomFor held kept xs place ys u
