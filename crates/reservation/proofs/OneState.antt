@@ -1,9 +1,9 @@
 -- What the rules leave open: two choices for a page agree, and one choice, one refusal and one frame that comes in leave one state.
-use Rattle.std.proofs.Common.{◌≡◌, ℕ, zero, suc, ◌+◌, ◌/◌, ◌%◌, ◌^◌, ◌<◌, ◌≤◌, Bool, true, false, eqb, MatchBool, Result, Ok, Err, sym, refl, ap, ap₂, ◌∙◌, subst, ⊎_elim, arith}
+use Rattle.std.proofs.Common.{◌≡◌, ℕ, zero, suc, ◌+◌, ◌-◌, ◌*◌, ◌/◌, ◌%◌, ◌&&◌, ◌^◌, ◌<◌, ◌≤◌, Bool, true, false, eqb, MatchBool, Result, Ok, Err, sym, refl, ap, ap₂, ◌∙◌, subst, ⊎_elim, arith}
 use mathlib.Core.Path.{fun_ext}
 use native.Mathlib.Bridge.{le_prop}
 use Rattle.std.proofs.lemmas.Bool.{both_ways, eqb-true, eqb-false, ne_eqb, not_from_false, and_from, and_parts, ltb-true, cases_Bool, cases_eq, cases_order}
-use Rattle.words.specs.Layout.{bit, block_of}
+use Rattle.words.specs.Layout.{bit, block_of, offset_of}
 use Rattle.frames.specs.declared.fault.AllocateFault.{AllocateFault}
 use Rattle.frames.specs.declared.fault.AllocateFault.TheVariants.{AllOut}
 use Rattle.frames.specs.declared.fault.FreeFault.{FreeFault}
@@ -15,10 +15,11 @@ use Rattle.reservation.specs.declared.group.Step.TheVariants.{Kept, Reserves, Sp
 use Rattle.reservation.specs.declared.group.Usage.{Usage}
 use Rattle.reservation.specs.declared.group.Usage.TheVariants.{Open, Reserved, Broken}
 use Rattle.reservation.specs.declared.reservation.ReservationAllocator.{ReservationAllocator}
-use Rattle.reservation.specs.Ages.{rank_of, taken_out}
-use Rattle.reservation.specs.Groups.{open_use, broken_use, is_open, is_broken, has_in, block_use, In, OutAt}
+use Rattle.reservation.specs.Ages.{rank_of, put_last, taken_out}
+use Rattle.reservation.specs.Groups.{open_use, broken_use, is_open, is_reserved, is_broken, is_spare, waits_in, has_in, block_use, In, OutAt, Returned}
 use Rattle.reservation.specs.Laws.{own_group, last_step, SameSpot, Agree, SameState, Determined}
-use Rattle.reservation.specs.Reservation.{reservation, group_of, older, frame_at, group_at, offset_at, LowestOpen, NoSpare, NoneIn, NoOwn, Longest, Rule, Chosen, UsedAs, OrderAfter, OnlyGroup, Taken, CameIn}
+use Rattle.frames.specs.Stock.{first_frame, in_stock}
+use Rattle.reservation.specs.Reservation.{reservation, group_of, group_out, older, frame_at, group_at, offset_at, LowestOpen, NoSpare, NoneIn, NoOwn, Longest, Rule, Chosen, UsedAs, OrderAfter, OnlyGroup, Taken, CameIn}
 use Rattle.reservation.proofs.Grouped.{full_bit}
 use Rattle.reservation.proofs.Usages.{both_for}
 use Rattle.reservation.proofs.WordSets.{half_bit}
@@ -208,18 +209,9 @@ taken_once s u v p f g c d x y same a b =
       },
     )
 
-same_state : (s u v : ReservationAllocator) → u ≡ s → v ≡ s → SameState u v
-same_state s u v e d =
-    let i = e ∙ sym d in
-    record { stock = ap (λ x. x.stock) i; groups = ap group_of i; order = ap older i }
-
 -- a frame that is in shows that not every group is full
 not_full : (s : ReservationAllocator) (p : ℕ) (c : Choice) → Chosen s p c → NoneIn s → ⊥
 not_full s p c x none = both_ways _ (none c.spot.group) (in_has (group_of s c.spot.group) c.spot.offset.number x.within)
-
-refused_once : (s u v : ReservationAllocator) (p : ℕ) (e : AllocateFault) (r : Result ℕ AllocateFault) → reservation.allocated s p (Err e) u → reservation.allocated s p r v → (r ≡ Err e) × SameState u v
-refused_once s u v p AllOut (Ok f) (none, a) (c, x, b) = absurd (not_full s p c x none)
-refused_once s u v p AllOut (Err AllOut) (none, a) (all, b) = (refl, same_state s u v a b)
 
 -- what a group is used for after a frame came in
 same_returned : (x y z : Group) → x.out.bits ≡ y.out.bits → MatchBool (eqb x.out.bits 0) (is_open x ≡ true) (x.usage ≡ z.usage) → MatchBool (eqb y.out.bits 0) (is_open y ≡ true) (y.usage ≡ z.usage) → x.usage ≡ y.usage
@@ -245,11 +237,98 @@ came_once s u v g k a b =
     by_open true a b = a ∙ sym b
     by_open false a b = a ∙ sym b
 
-freed_once : (s u v : ReservationAllocator) (f : ℕ) (r q : Result (Unit {0}) FreeFault) → reservation.freed s f r u → reservation.freed s f q v → (r ≡ q) × SameState u v
-freed_once s u v f (Ok x) (Ok y) (i, a) (j, b) = (refl, came_once s u v (group_at s f) (offset_at s f) a b)
-freed_once s u v f (Ok x) (Err NotOut) (y, a) (within, b) = absurd (y.0 within)
-freed_once s u v f (Err NotOut) (Ok x) (within, a) (y, b) = absurd (y.0 within)
-freed_once s u v f (Err NotOut) (Err NotOut) (i, a) (j, b) = (refl, same_state s u v a b)
+-- what a rule says of one allocator it says of every other in the same state
+module _ (s t : ReservationAllocator) (z : SameState s t) where
+  by_groups : (P : (ℕ → Group) → Type 0) → P (group_of s) → P (group_of t)
+  by_groups P x = subst P z.groups x
+
+  to_groups : (P : (ℕ → Group) → Type 0) → P (group_of t) → P (group_of s)
+  to_groups P x = subst P (sym z.groups) x
+
+  lowest_too : (g : ℕ) → LowestOpen s g → LowestOpen t g
+  lowest_too g x = record { here = by_groups (λ f. is_open (f g) ≡ true) x.here; lower = λ h l. by_groups (λ f. is_open (f h) ≡ false) (x.lower h l) }
+
+  no_own_too : (p : ℕ) → NoOwn s p → NoOwn t p
+  no_own_too p x = record {
+    kept = λ g r. by_groups (λ f. bit (f g).out.bits (offset_of p) ≡ true) (x.kept g (to_groups (λ f. block_use (block_of p) (f g).usage ≡ true) r));
+    reserves = λ none g. by_groups (λ f. is_open (f g) ≡ false) (x.reserves (λ h. to_groups (λ f. block_use (block_of p) (f h).usage ≡ false) (none h)) g);
+  }
+
+  longest_too : (g : ℕ) → Longest s g → Longest t g
+  longest_too g x = record {
+    here = by_groups (λ f. waits_in (f g) ≡ true) x.here;
+    first = λ h w ne. subst (λ o. o g h ≡ true) z.order (x.first h (to_groups (λ f. waits_in (f h) ≡ true) w) ne);
+  }
+
+  rule_too : (p : ℕ) (c : Step) (g k : ℕ) → Rule s p c g k → Rule t p c g k
+  rule_too p Kept g k (r, e) = (by_groups (λ f. block_use (block_of p) (f g).usage ≡ true) r, e)
+  rule_too p Reserves g k (none, low, e) = ((λ h. by_groups (λ f. block_use (block_of p) (f h).usage ≡ false) (none h)), lowest_too g low, e)
+  rule_too p Spare g k (own, b) = (no_own_too p own, by_groups (λ f. is_broken (f g) ≡ true) b)
+  rule_too p Breaks g k (own, none, o) = (no_own_too p own, (λ h. by_groups (λ f. is_spare (f h) ≡ false) (none h)), by_groups (λ f. is_open (f g) ≡ true) o)
+  rule_too p BreaksOldest g k (own, none, closed, old) =
+      (no_own_too p own, (λ h. by_groups (λ f. is_spare (f h) ≡ false) (none h)), (λ h. by_groups (λ f. is_open (f h) ≡ false) (closed h)), longest_too g old)
+
+  chosen_too : (p : ℕ) (c : Choice) → Chosen s p c → Chosen t p c
+  chosen_too p c x = record {
+    rule = rule_too p c.step c.spot.group c.spot.offset.number x.rule;
+    within = by_groups (λ f. In (f c.spot.group) c.spot.offset.number) x.within;
+  }
+
+  order_too : (c : Step) (g : ℕ) (u : ReservationAllocator) → OrderAfter s c g u → OrderAfter t c g u
+  order_too Kept g u e = e ∙ z.order
+  order_too Reserves g u e = e ∙ ap₂ (λ o f. put_last o (λ h. is_reserved (f h)) g) z.order z.groups
+  order_too Spare g u e = e ∙ z.order
+  order_too Breaks g u e = e ∙ z.order
+  order_too BreaksOldest g u e = e ∙ ap (λ o. taken_out o g) z.order
+
+  only_too : (g : ℕ) (u : ReservationAllocator) → OnlyGroup s g u → OnlyGroup t g u
+  only_too g u x = record { stock = x.stock ∙ z.stock; others = λ h ne. x.others h ne ∙ ap (λ f. f h) z.groups }
+
+  taken_too : (p f : ℕ) (c : Choice) (u : ReservationAllocator) → Taken s p c f u → Taken t p c f u
+  taken_too p f c u x = record {
+    frame = x.frame ∙ ap (λ k. first_frame k + (16 * c.spot.group + c.spot.offset.number)) z.stock;
+    only = only_too c.spot.group u x.only;
+    out = by_groups (λ f. OutAt (f c.spot.group) c.spot.offset.number true (group_of u c.spot.group)) x.out;
+    usage = x.usage;
+    order = order_too c.step c.spot.group u x.order;
+  }
+
+  came_too : (g k : ℕ) (u : ReservationAllocator) → CameIn s g k u → CameIn t g k u
+  came_too g k u x = record {
+    only = only_too g u x.only;
+    returned = by_groups (λ f. Returned (f g) k (group_of u g)) x.returned;
+    order = subst (λ o. MatchBool (is_open (group_of u g)) (older u ≡ taken_out o g) (older u ≡ o)) z.order x.order;
+  }
+
+  out_too : (f : ℕ) → group_out s f ≡ group_out t f
+  out_too f = ap₂ (λ k h. in_stock k f && bit (h ((f - first_frame k) / 16)).out.bits ((f - first_frame k) % 16)) z.stock z.groups
+
+  -- both were left as they were
+  same_left : (u v : ReservationAllocator) → u ≡ s → v ≡ t → SameState u v
+  same_left u v e d = record {
+    stock = ap (λ x. x.stock) e ∙ z.stock ∙ sym (ap (λ x. x.stock) d);
+    groups = ap group_of e ∙ z.groups ∙ sym (ap group_of d);
+    order = ap older e ∙ z.order ∙ sym (ap older d);
+  }
+
+  refused_once : (u v : ReservationAllocator) (p : ℕ) (e : AllocateFault) (r : Result ℕ AllocateFault) → reservation.allocated s p (Err e) u → reservation.allocated t p r v → (r ≡ Err e) × SameState u v
+  refused_once u v p AllOut (Ok f) (none, a) (c, x, b) = absurd (not_full t p c x (λ g. by_groups (λ f. has_in (f g) ≡ false) (none g)))
+  refused_once u v p AllOut (Err AllOut) (none, a) (all, b) = (refl, same_left u v a b)
+
+  freed_once : (u v : ReservationAllocator) (f : ℕ) (r q : Result (Unit {0}) FreeFault) → reservation.freed s f r u → reservation.freed t f q v → (r ≡ q) × SameState u v
+  freed_once u v f (Ok x) (Ok y) (i, a) (j, b) = (
+    refl,
+    came_once t u v (group_at t f) (offset_at t f)
+        (subst (λ k. CameIn t ((f - first_frame k) / 16) ((f - first_frame k) % 16) u) z.stock (came_too (group_at s f) (offset_at s f) u a)) b,
+  )
+  freed_once u v f (Ok x) (Err NotOut) (y, a) (within, b) = absurd (y.0 (out_too f ∙ within))
+  freed_once u v f (Err NotOut) (Ok x) (within, a) (y, b) = absurd (y.0 (sym (out_too f) ∙ within))
+  freed_once u v f (Err NotOut) (Err NotOut) (i, a) (j, b) = (refl, same_left u v a b)
 
 pub determined : Determined
-determined = record { choices = choices; taken = taken_once; refused = refused_once; freed = freed_once }
+determined = record {
+  choices = λ s t p c d z x y. choices t p c d (chosen_too s t z p c x) y;
+  taken = λ s t u v p f g c d z x y same a b. taken_once t u v p f g c d (chosen_too s t z p c x) y same (taken_too s t z p f c u a) b;
+  refused = λ s t u v p e r z. refused_once s t z u v p e r;
+  freed = λ s t u v f r q z. freed_once s t z u v f r q;
+}

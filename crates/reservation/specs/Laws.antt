@@ -53,13 +53,13 @@ pub record SameState (u v : ReservationAllocator) : Type 0 where
   pub groups : group_of u ≡ group_of v
   pub order : older u ≡ older v
 
--- From one state a call has one answer and leaves one state, but for what the rules leave free: which frame in the last three steps, and of
--- which group in Spare and Breaks.
+-- From one state, be it of one allocator or of two, a call has one answer and leaves one state, but for what the rules do not determine: which
+-- frame in the last three steps, and of which group in Spare and Breaks.
 pub record Determined : Type 0 where
-  pub choices : (s : ReservationAllocator) (p : ℕ) (c d : Choice) → Chosen s p c → Chosen s p d → Agree c d
-  pub taken : (s u v : ReservationAllocator) (p f g : ℕ) (c d : Choice) → Chosen s p c → Chosen s p d → SameSpot c d
-      → Taken s p c f u → Taken s p d g v → (f ≡ g) × SameState u v
-  pub refused : (s u v : ReservationAllocator) (p : ℕ) (e : AllocateFault) (r : Result ℕ AllocateFault)
-      → reservation.allocated s p (Err e) u → reservation.allocated s p r v → (r ≡ Err e) × SameState u v
-  pub freed : (s u v : ReservationAllocator) (f : ℕ) (r q : Result (Unit {0}) FreeFault)
-      → reservation.freed s f r u → reservation.freed s f q v → (r ≡ q) × SameState u v
+  pub choices : (s t : ReservationAllocator) (p : ℕ) (c d : Choice) → SameState s t → Chosen s p c → Chosen t p d → Agree c d
+  pub taken : (s t u v : ReservationAllocator) (p f g : ℕ) (c d : Choice) → SameState s t → Chosen s p c → Chosen t p d → SameSpot c d
+      → Taken s p c f u → Taken t p d g v → (f ≡ g) × SameState u v
+  pub refused : (s t u v : ReservationAllocator) (p : ℕ) (e : AllocateFault) (r : Result ℕ AllocateFault) → SameState s t
+      → reservation.allocated s p (Err e) u → reservation.allocated t p r v → (r ≡ Err e) × SameState u v
+  pub freed : (s t u v : ReservationAllocator) (f : ℕ) (r q : Result (Unit {0}) FreeFault) → SameState s t
+      → reservation.freed s f r u → reservation.freed t f q v → (r ≡ q) × SameState u v
