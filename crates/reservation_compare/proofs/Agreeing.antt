@@ -3,20 +3,20 @@ use Rattle.std.proofs.Common.{◌≡◌, ◌+◌, List, [], MatchResult, Result,
 use Rattle.std.proofs.lemmas.List.{length_push}
 use Rattle.frames.specs.Meaning.{FramesMeaning}
 use Rattle.reservation_compare.specs.declared.calls.Call.{Call}
-use Rattle.reservation_compare.specs.declared.event.Event.{Event}
+use Rattle.reservation_compare.specs.declared.event.Outcome.{Outcome}
 use Rattle.reservation_compare.specs.declared.fault.Stop.{Stop}
 use Rattle.reservation_compare.specs.Agreement.{Disagrees, Noted, Stopped, FirstDiffers, Agreed, start, further}
 use Rattle.reservation_compare.specs.Models.{ModelMeaning}
 
 module _ {A M : Type 0} (k : FramesMeaning A) (m : ModelMeaning M) where
-  pub none_yet : (a : A) (n : M) (es : List Event) → es ≡ [] → Agreed k m a n es a n
+  pub none_yet : (a : A) (n : M) (es : List Outcome) → es ≡ [] → Agreed k m a n es a n
   none_yet a n es e = subst (λ xs. Agreed k m a n xs a n) (sym e) start
 
-  pub one_more : (a : A) (n : M) (es xs : List Event) (b : A) (o : M) (call : Call) (c : A) (q : M) → Agreed k m a n es b o → Noted k m b o call es c q xs
+  pub one_more : (a : A) (n : M) (es xs : List Outcome) (b : A) (o : M) (call : Call) (c : A) (q : M) → Agreed k m a n es b o → Noted k m b o call es c q xs
       → (length xs ≡ length es + 1) × Agreed k m a n xs c q
   one_more a n es xs b o call c q d (e, agree, is) = (ap length is ∙ length_push es e, subst (λ ys. Agreed k m a n ys c q) (sym is) (further es b o call e c q d agree))
 
-  pub first_stop : (a : A) (n : M) (es : List Event) (b : A) (o : M) (call : Call) (stop : Stop) → Agreed k m a n es b o → Stopped k m b o call es stop → FirstDiffers k m a n stop
+  pub first_stop : (a : A) (n : M) (es : List Outcome) (b : A) (o : M) (call : Call) (stop : Stop) → Agreed k m a n es b o → Stopped k m b o call es stop → FirstDiffers k m a n stop
   first_stop a n es b o call stop d why f =
       let (own, before, differs) = why f in
       (es, b, o, d, sym before, subst (Disagrees k m b o) (sym own) differs)

@@ -4,7 +4,7 @@ ghost use Rattle.reservation_compare.specs.declared.calls.Call.TheVariants.{Allo
 ghost use Rattle.reservation_compare.specs.Agreement.{Compared, Noted, Stopped, AllAgreed, FirstDiffers};
 
 use crate::calls::{Call, phases};
-use crate::event::Event;
+use crate::event::{Event, Outcome};
 use crate::fault::{Fault, Stop};
 use crate::model::FrameModel;
 use frames::FrameAllocator;
@@ -13,14 +13,14 @@ use rand_xoshiro::Xoshiro256PlusPlus;
 use std::alloc::Global;
 use words::Page;
 
-// The events of the 17,000 calls, where the allocator and the model agree on each; else the first call on which they do not.
+// What came of each of the 17,000 calls, where the allocator and the model agree on each; else the first call on which they do not.
 pub fn compare<A: FrameAllocator + Drop, M: FrameModel + Drop>(
     heap: Global,
     allocator: A,
     model: M,
-) -> Result<Vec<Event>, Stop>
+) -> Result<Vec<Outcome>, Stop>
     ensures { MatchResult result
-        (λ events. (length events.items ≡ 17000) × AllAgreed A.meaning M.meaning allocator model events.items)
+        (λ outcomes. (length outcomes.items ≡ 17000) × AllAgreed A.meaning M.meaning allocator model outcomes.items)
         (λ stop. FirstDiffers A.meaning M.meaning allocator model stop) }
 {
     let mut random = Xoshiro256PlusPlus::seed_from_u64(1);
@@ -29,14 +29,14 @@ pub fn compare<A: FrameAllocator + Drop, M: FrameModel + Drop>(
         model,
         given: Vec::new(heap),
     };
-    let mut events = Vec::new(heap);
+    let mut outcomes = Vec::new(heap);
     for phase in phases() {
         for _ in 0..phase.calls {
             let call = Call::draw(&mut random, phase, &both.given);
-            both.note(heap, call, &mut events)?;
+            both.note(heap, call, &mut outcomes)?;
         }
     }
-    Ok(events)
+    Ok(outcomes)
 }
 
 // An allocator with its model, and the frames that went out, in turn.
@@ -48,15 +48,15 @@ struct Both<A, M> {
 }
 
 impl<A: FrameAllocator, M: FrameModel> Both<A, M> {
-    // Makes the call, and notes what came of it after the other events.
-    fn note(&mut self, heap: Global, call: Call, events: &mut Vec<Event>) -> Result<(), Stop>
+    // Makes the call, and notes what came of it after the others.
+    fn note(&mut self, heap: Global, call: Call, outcomes: &mut Vec<Outcome>) -> Result<(), Stop>
         ensures { MatchResult result
-            (λ _. Noted A.meaning M.meaning self.old.allocator self.old.model call events.old.items self.new.allocator self.new.model events.new.items)
-            (λ stop. Stopped A.meaning M.meaning self.old.allocator self.old.model call events.old.items stop) }
+            (λ _. Noted A.meaning M.meaning self.old.allocator self.old.model call outcomes.old.items self.new.allocator self.new.model outcomes.new.items)
+            (λ stop. Stopped A.meaning M.meaning self.old.allocator self.old.model call outcomes.old.items stop) }
     {
-        let before = events.len();
-        let event = match self.make(heap, call) {
-            Ok(event) => event,
+        let before = outcomes.len();
+        let outcome = match self.make(heap, call) {
+            Ok(outcome) => outcome,
             Err(fault) => {
                 return Err(Stop {
                     before,
@@ -65,7 +65,7 @@ impl<A: FrameAllocator, M: FrameModel> Both<A, M> {
                 });
             }
         };
-        if events.push(event).is_err() {
+        if outcomes.push(outcome).is_err() {
             return Err(Stop {
                 before,
                 call,
@@ -75,7 +75,7 @@ impl<A: FrameAllocator, M: FrameModel> Both<A, M> {
         Ok(())
     }
 
-    fn make(&mut self, heap: Global, call: Call) -> Result<Event, Fault>
+    fn make(&mut self, heap: Global, call: Call) -> Result<Outcome, Fault>
         ensures { Compared A.meaning M.meaning self.old.allocator self.old.model call result self.new.allocator self.new.model }
     {
         match call {
@@ -84,7 +84,7 @@ impl<A: FrameAllocator, M: FrameModel> Both<A, M> {
         }
     }
 
-    fn allocate(&mut self, heap: Global, page: u64) -> Result<Event, Fault>
+    fn allocate(&mut self, heap: Global, page: u64) -> Result<Outcome, Fault>
         ensures { Compared A.meaning M.meaning self.old.allocator self.old.model (Allocate page) result self.new.allocator self.new.model }
     {
         let choices = self.model.choices(heap, page)?;
@@ -97,10 +97,13 @@ impl<A: FrameAllocator, M: FrameModel> Both<A, M> {
         } else if !choices.frames.is_empty() {
             return Err(Fault::Differs);
         }
-        Ok(choices.event)
+        Ok(Outcome {
+            event: choices.event,
+            allowed: choices.frames.len(),
+        })
     }
 
-    fn free(&mut self, frame: u32) -> Result<Event, Fault>
+    fn free(&mut self, frame: u32) -> Result<Outcome, Fault>
         ensures { Compared A.meaning M.meaning self.old.allocator self.old.model (Free frame) result self.new.allocator self.new.model }
     {
         let freed = self.allocator.free(frame).is_ok();
@@ -108,9 +111,15 @@ impl<A: FrameAllocator, M: FrameModel> Both<A, M> {
             return Err(Fault::Differs);
         }
         if !freed {
-            return Ok(Event::NotOut);
+            return Ok(Outcome {
+                event: Event::NotOut,
+                allowed: 0,
+            });
         }
         self.model.give(frame)?;
-        Ok(Event::Freed)
+        Ok(Outcome {
+            event: Event::Freed,
+            allowed: 0,
+        })
     }
 }

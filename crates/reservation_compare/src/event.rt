@@ -16,6 +16,13 @@ pub enum Event {
     NotOut,
 }
 
+// What came of a call, and how many frames the model let the allocator choose among.
+#[derive(Clone, Copy, PartialEq, Eq, Debug)]
+pub struct Outcome {
+    pub event: Event,
+    pub allowed: usize,
+}
+
 pub const EVENTS: [Event; 9] = [
     Event::Head,
     Event::Kept,

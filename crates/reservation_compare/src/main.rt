@@ -14,7 +14,7 @@ mod tests;
 use anyhow::anyhow;
 use calls::FIRST_GROUP;
 use compare::compare;
-use event::{EVENTS, Event};
+use event::{EVENTS, Outcome};
 use fault::Stop;
 use frames::FreeListAllocator;
 use group_model::GroupModel;
@@ -47,13 +47,22 @@ fn run(rt: &HostRuntime) -> anyhow::Result<()> {
     )
 }
 
-fn report(rt: &HostRuntime, name: &str, outcome: Result<Vec<Event>, Stop>) -> anyhow::Result<()> {
+fn report(rt: &HostRuntime, name: &str, outcome: Result<Vec<Outcome>, Stop>) -> anyhow::Result<()> {
     match outcome {
-        Ok(events) => {
-            print!(rt; "{name}: {} calls", events.len())?;
+        Ok(outcomes) => {
+            print!(rt; "{name}: {} calls", outcomes.len())?;
             for kind in EVENTS {
-                let count = events.iter().filter(|event| **event == kind).count();
-                if count > 0 {
+                let mut count = 0u64;
+                let mut allowed = 0u64;
+                for outcome in outcomes.iter() {
+                    if outcome.event == kind {
+                        count = count.saturating_add(1);
+                        allowed = allowed.saturating_add(outcome.allowed as u64);
+                    }
+                }
+                if allowed > 0 {
+                    print!(rt; ", {count} {kind} of {allowed} frames")?;
+                } else if count > 0 {
                     print!(rt; ", {count} {kind}")?;
                 }
             }
