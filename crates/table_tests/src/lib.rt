@@ -4,7 +4,8 @@
 #[cfg(test)]
 mod tests {
     use table::{
-        MapFault, NotMapped, PageTable, ProtectFault, TableCall, TableCensus, TableEvent, replay_table,
+        MapFault, NotMapped, PageTable, ProtectFault, TableCall, TableCensus, TableEvent,
+        replay_table,
     };
     use words::{Page, Translation, Word};
 
