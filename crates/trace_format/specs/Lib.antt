@@ -1,0 +1,5 @@
+pub mod Kinds
+pub mod Troubles
+pub mod Bytes
+pub mod Records
+pub mod Lines
