@@ -9,9 +9,10 @@ use Rattle.trace_format.specs.Bytes.{Begins}
 payload_len_small : (k : Kind) → payload_len k < 11
 payload_len_small = elim [ Populate ↦ omega arith | Release ↦ omega arith | Protect ↦ omega arith | Touch ↦ omega arith | Try ↦ omega arith | Census ↦ omega arith ]
 
-pub spelled : (k : Kind) (tag high low : ℕ) (rest payload : List ℕ) → tag_of k ≡ tag → high * 256 + low ≡ payload_len k → length payload ≡ high * 256 + low → payload ≡ take (high * 256 + low) rest
+pub begins : (k : Kind) (tag high low : ℕ) (rest payload : List ℕ)
+    → tag_of k ≡ tag → high * 256 + low ≡ payload_len k → length payload ≡ high * 256 + low → payload ≡ take (high * 256 + low) rest
     → Begins (tag ∷ high ∷ low ∷ rest) k payload
-spelled k tag high low rest payload a b d e =
+begins k tag high low rest payload a b d e =
     let s = payload_len_small k in
     let h : high ≡ 0 = omega arith in
     let l : low ≡ payload_len k = omega arith in

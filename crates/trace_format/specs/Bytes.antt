@@ -1,12 +1,12 @@
 -- Records as bytes.
-use Rattle.std.specs.Prelude.{◌≡◌, ◌≢◌, ℕ, ◌+◌, ◌*◌, ◌<◌, List, [], ◌∷◌, ◌++◌, length, drop}
+use Rattle.std.specs.Prelude.{◌≡◌, ◌≢◌, ℕ, ◌+◌, ◌*◌, ◌^◌, ◌<◌, List, [], ◌∷◌, ◌++◌, length, drop}
 use Rattle.std.specs.Int.{to_be_bytes, w16, w64}
 use Rattle.trace_format.specs.declared.record.Kind.{Kind}
 use Rattle.trace_format.specs.declared.record.Kind.TheVariants as kind
 use Rattle.trace_format.specs.declared.record.Record.{Record}
 use Rattle.trace_format.specs.declared.record.Record.TheVariants.{Populate, Release, Protect, Touch, Try, Census}
-use Rattle.trace_format.specs.declared.reader.Trouble.{Trouble}
-use Rattle.trace_format.specs.declared.reader.Trouble.TheVariants.{Cut, UnknownTag, WrongLength}
+use Rattle.trace_format.specs.declared.fault.Trouble.{Trouble}
+use Rattle.trace_format.specs.declared.fault.Trouble.TheVariants.{Cut, UnknownTag, WrongLength}
 use Rattle.trace_format.specs.Kinds.{tag_of, payload_len, IsUnknown}
 
 abbrev pub kind_of : Record → Kind
@@ -26,9 +26,23 @@ payload_of (Touch address access) = to_be_bytes w64 address ++ access ∷ []
 payload_of (Try address) = to_be_bytes w64 address
 payload_of Census = []
 
+-- the numbers of a record fit their widths
+abbrev pub Fits : Record → Type 0
+Fits (Populate address attributes) = (address < 2 ^ 64) × (attributes < 2 ^ 16)
+Fits (Release address) = address < 2 ^ 64
+Fits (Protect address attributes) = (address < 2 ^ 64) × (attributes < 2 ^ 16)
+Fits (Touch address access) = (address < 2 ^ 64) × (access < 2 ^ 8)
+Fits (Try address) = address < 2 ^ 64
+Fits Census = Unit {0}
+
 -- a tag, a length in two bytes, high byte first, and a payload
 abbrev pub framed : Kind → List ℕ → List ℕ
 framed kind payload = tag_of kind ∷ 0 ∷ payload_len kind ∷ payload
+
+-- records, one after another
+abbrev pub spelled : List Record → List ℕ
+spelled [] = []
+spelled (first ∷ others) = framed (kind_of first) (payload_of first) ++ spelled others
 
 -- the bytes begin with a record of this kind and payload
 pub record Begins (bytes : List ℕ) (kind : Kind) (payload : List ℕ) : Type 0 where

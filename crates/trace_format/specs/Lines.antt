@@ -1,12 +1,12 @@
 -- Lines as bytes.
-use Rattle.std.specs.Prelude.{◌≡◌, ℕ, ◌+◌, ◌<◌, List, [], ◌∷◌, ◌++◌, length, drop, decimal, codes}
+use Rattle.std.specs.Prelude.{◌≡◌, ℕ, ◌^◌, ◌<◌, List, [], ◌∷◌, ◌++◌, length, drop, decimal, codes}
 use Rattle.trace_format.specs.declared.line.Mark.{Mark}
 use Rattle.trace_format.specs.declared.line.Mark.TheVariants.{Hit, Missed}
 use Rattle.trace_format.specs.declared.line.Line.{Line}
 use Rattle.trace_format.specs.declared.line.Line.TheVariants as line
 use Rattle.trace_format.specs.declared.record.Kind.{Kind}
 use Rattle.trace_format.specs.declared.record.Kind.TheVariants.{Populate, Release, Protect, Touch, Try, Census}
-use Rattle.trace_format.specs.Troubles.{trouble_number}
+use Rattle.trace_format.specs.Faults.{trouble_number}
 
 -- p, r, a, t, f, c
 abbrev pub letter_of : Kind → ℕ
@@ -21,20 +21,32 @@ letter_of Census = 99
 abbrev pub figure : ℕ → List ℕ
 figure n = 32 ∷ decimal n
 
-abbrev pub mark_text : Mark → List ℕ
-mark_text Hit = codes " h"
-mark_text Missed = codes " w"
+-- h, w
+abbrev pub mark_letter : Mark → ℕ
+mark_letter Hit = 104
+mark_letter Missed = 119
 
 -- a line, without its line feed
 abbrev pub words_of : Line → List ℕ
 words_of (line.Populated frame) = letter_of Populate ∷ figure frame
 words_of (line.Released frame) = letter_of Release ∷ figure frame
 words_of (line.Protected attributes) = letter_of Protect ∷ figure attributes
-words_of (line.Touched physical mark) = letter_of Touch ∷ figure physical ++ mark_text mark
+words_of (line.Touched physical mark) = letter_of Touch ∷ figure physical ++ 32 ∷ mark_letter mark ∷ []
 words_of (line.Tried frame) = letter_of Try ∷ figure frame
 words_of (line.Counted nodes rows pages fills) = letter_of Census ∷ figure nodes ++ figure rows ++ figure pages ++ figure fills
 words_of (line.Refused kind number) = letter_of kind ∷ (codes " !" ++ decimal number)
 words_of (line.Faulted trouble place) = codes "x" ++ figure (trouble_number trouble) ++ figure place
+
+-- the figures of a line fit their widths
+abbrev pub FiguresFit : Line → Type 0
+FiguresFit (line.Populated frame) = frame < 2 ^ 32
+FiguresFit (line.Released frame) = frame < 2 ^ 32
+FiguresFit (line.Protected attributes) = attributes < 2 ^ 16
+FiguresFit (line.Touched physical mark) = physical < 2 ^ 64
+FiguresFit (line.Tried frame) = frame < 2 ^ 32
+FiguresFit (line.Counted nodes rows pages fills) = (nodes < 2 ^ 32) × (rows < 2 ^ 32) × (pages < 2 ^ 32) × (fills < 2 ^ 32)
+FiguresFit (line.Refused kind number) = number < 2 ^ 32
+FiguresFit (line.Faulted trouble place) = place < 2 ^ 32
 
 abbrev pub text_of : Line → List ℕ
 text_of line = words_of line ++ codes "\n"

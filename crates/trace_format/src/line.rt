@@ -1,9 +1,10 @@
 // The lines that are written of a trace, to the front of a lent buffer.
-ghost use Rattle.std.specs.Prelude.{◌≡◌, ◌+◌, ◌<◌, ◌≤◌, ◌∷◌, ◌++◌, length, IfOk, OnOk, OnErr};
+ghost use Rattle.std.specs.Prelude.{◌≡◌, ◌+◌, ◌<◌, ◌≤◌, [], ◌∷◌, ◌++◌, length, IfOk, OnOk, OnErr};
 ghost use Rattle.arrayvec.specs.ArrayVec.{array_vec_len};
-ghost use Rattle.trace_format.specs.Lines.{letter_of, words_of, text_of, HasLine};
+ghost use Rattle.trace_format.specs.Lines.{letter_of, mark_letter, words_of, text_of, HasLine};
+ghost use Rattle.trace_format.specs.declared.line.Line.TheVariants as line;
 
-use crate::reader::Trouble;
+use crate::fault::{ShortBuffer, Trouble};
 use crate::record::Kind;
 use arrayvec::ArrayVec;
 use itoa::{Buffer, Integer};
@@ -52,14 +53,10 @@ pub enum Line {
     },
 }
 
-// The buffer is shorter than 64 bytes.
-#[derive(Clone, Copy, PartialEq, Eq, Debug)]
-pub struct ShortBuffer;
-
 // A buffer of this length takes any line.
 pub const LINE_ROOM: usize = 64;
 
-type Text = ArrayVec<u8, 64>;
+type Text = ArrayVec<u8, LINE_ROOM>;
 
 impl Kind {
     // The letter that begins each line of such a record.
@@ -77,15 +74,89 @@ impl Kind {
     }
 }
 
+impl Mark {
+    fn letter(self) -> u8
+        ensures { result ≡ mark_letter self }
+    {
+        match self {
+            Mark::Hit => b'h',
+            Mark::Missed => b'w',
+        }
+    }
+}
+
+// A number in decimal, with no space.
+fn push_number<I: Integer>(text: &mut Text, number: I)
+    requires { array_vec_len text.old + I.MAX_STR_LEN ≤ 64 }
+    ensures items { text.new.items ≡ text.old.items ++ I.text number }
+    ensures len { array_vec_len text.new ≤ array_vec_len text.old + I.MAX_STR_LEN }
+{
+    let mut digits = Buffer::new();
+    let _ = text.try_extend_from_slice(digits.format(number).as_bytes());
+}
+
 // A space, and a number in decimal.
 fn push_figure<I: Integer>(text: &mut Text, number: I)
     requires { array_vec_len text.old + 1 + I.MAX_STR_LEN ≤ 64 }
     ensures items { text.new.items ≡ text.old.items ++ 32 ∷ I.text number }
     ensures len { array_vec_len text.new ≤ array_vec_len text.old + 1 + I.MAX_STR_LEN }
 {
-    let mut digits = Buffer::new();
     text.push(b' ');
-    let _ = text.try_extend_from_slice(digits.format(number).as_bytes());
+    push_number(text, number);
+}
+
+// A line of a letter and one figure.
+fn one_figure<I: Integer>(letter: u8, number: I) -> Text
+    requires { 2 + I.MAX_STR_LEN ≤ 64 }
+    ensures items { result.items ≡ letter ∷ 32 ∷ I.text number }
+    ensures len { array_vec_len result ≤ 2 + I.MAX_STR_LEN }
+{
+    let mut text = ArrayVec::new();
+    text.push(letter);
+    push_figure(&mut text, number);
+    text
+}
+
+fn touched(physical: u64, mark: Mark) -> Text
+    ensures items { result.items ≡ words_of (line.Touched physical mark) }
+    ensures room { array_vec_len result < 64 }
+{
+    let mut text = one_figure(Kind::Touch.letter(), physical);
+    text.push(b' ');
+    text.push(mark.letter());
+    text
+}
+
+fn counted(nodes: u32, rows: u32, pages: u32, fills: u32) -> Text
+    ensures items { result.items ≡ words_of (line.Counted nodes rows pages fills) }
+    ensures room { array_vec_len result < 64 }
+{
+    let mut text = one_figure(Kind::Census.letter(), nodes);
+    push_figure(&mut text, rows);
+    push_figure(&mut text, pages);
+    push_figure(&mut text, fills);
+    text
+}
+
+fn refused(kind: Kind, number: u32) -> Text
+    ensures items { result.items ≡ words_of (line.Refused kind number) }
+    ensures room { array_vec_len result < 64 }
+{
+    let mut text = ArrayVec::new();
+    text.push(kind.letter());
+    text.push(b' ');
+    text.push(b'!');
+    push_number(&mut text, number);
+    text
+}
+
+fn faulted(trouble: Trouble, place: u32) -> Text
+    ensures items { result.items ≡ words_of (line.Faulted trouble place) }
+    ensures room { array_vec_len result < 64 }
+{
+    let mut text = one_figure(b'x', u32::from(trouble));
+    push_figure(&mut text, place);
+    text
 }
 
 // The line without its line feed.
@@ -93,61 +164,24 @@ fn words(line: Line) -> Text
     ensures items { result.items ≡ words_of line }
     ensures room { array_vec_len result < 64 }
 {
-    let mut text = ArrayVec::new();
     match line {
-        Line::Populated { frame } => {
-            text.push(Kind::Populate.letter());
-            push_figure(&mut text, frame);
-        }
-        Line::Released { frame } => {
-            text.push(Kind::Release.letter());
-            push_figure(&mut text, frame);
-        }
-        Line::Protected { attributes } => {
-            text.push(Kind::Protect.letter());
-            push_figure(&mut text, attributes);
-        }
-        Line::Touched { physical, mark } => {
-            text.push(Kind::Touch.letter());
-            push_figure(&mut text, physical);
-            text.push(b' ');
-            text.push(match mark {
-                Mark::Hit => b'h',
-                Mark::Missed => b'w',
-            });
-        }
-        Line::Tried { frame } => {
-            text.push(Kind::Try.letter());
-            push_figure(&mut text, frame);
-        }
+        Line::Populated { frame } => one_figure(Kind::Populate.letter(), frame),
+        Line::Released { frame } => one_figure(Kind::Release.letter(), frame),
+        Line::Protected { attributes } => one_figure(Kind::Protect.letter(), attributes),
+        Line::Touched { physical, mark } => touched(physical, mark),
+        Line::Tried { frame } => one_figure(Kind::Try.letter(), frame),
         Line::Counted {
             nodes,
             rows,
             pages,
             fills,
-        } => {
-            text.push(Kind::Census.letter());
-            push_figure(&mut text, nodes);
-            push_figure(&mut text, rows);
-            push_figure(&mut text, pages);
-            push_figure(&mut text, fills);
-        }
-        Line::Refused { kind, number } => {
-            text.push(kind.letter());
-            text.push(b' ');
-            text.push(b'!');
-            let mut digits = Buffer::new();
-            let _ = text.try_extend_from_slice(digits.format(number).as_bytes());
-        }
-        Line::Faulted { trouble, place } => {
-            text.push(b'x');
-            push_figure(&mut text, u32::from(trouble));
-            push_figure(&mut text, place);
-        }
+        } => counted(nodes, rows, pages, fills),
+        Line::Refused { kind, number } => refused(kind, number),
+        Line::Faulted { trouble, place } => faulted(trouble, place),
     }
-    text
 }
 
+// The line with its line feed.
 fn text(line: Line) -> Text
     ensures { result.items ≡ text_of line }
 {

@@ -3,37 +3,13 @@ ghost use Rattle.std.specs.Prelude.{◌≡◌, ◌<◌, ◌≤◌, ◌++◌, ◌
 ghost use Rattle.std.specs.Int.{to_be_bytes, w16, w64};
 ghost use Rattle.trace_format.specs.Kinds.{payload_len};
 
+use crate::fault::{Fault, Trouble};
 use crate::record::{Kind, Record};
 
-// What is wrong where no record stands.
-#[derive(Clone, Copy, PartialEq, Eq, Debug)]
-pub enum Trouble {
-    // One or two bytes are left, or fewer than the payload takes.
-    Cut,
-    UnknownTag,
-    WrongLength,
-}
+// A tag, and a length in two bytes.
+const HEAD_LEN: usize = 3;
 
-// Why a trace ends early: what is wrong, and where the tag of the record stands, in bytes from 0.
-#[derive(Clone, Copy, PartialEq, Eq, Debug)]
-pub struct Fault {
-    pub trouble: Trouble,
-    pub place: usize,
-}
-
-impl From<Trouble> for u32 {
-    ghost use Rattle.trace_format.specs.Troubles.{trouble_number};
-
-    ghost from_gives = { λ trouble n. n ≡ trouble_number trouble };
-
-    fn from(trouble: Trouble) -> u32 {
-        match trouble {
-            Trouble::Cut => 13,
-            Trouble::UnknownTag => 14,
-            Trouble::WrongLength => 15,
-        }
-    }
-}
+const ADDRESS_LEN: usize = 8;
 
 // A record as it stands in an input: its payload is the part of the input that it is.
 #[derive(Clone, Copy)]
@@ -46,12 +22,13 @@ pub struct Part<'a> {
 }
 
 impl<'a> Part<'a> {
-    ghost use Rattle.trace_format.specs.Bytes.{kind_of, payload_of};
+    ghost use Rattle.trace_format.specs.Bytes.{kind_of, payload_of, Fits};
 
     // The record with its numbers.
     pub fn record(&self) -> Record
         ensures kind { kind_of result ≡ self.now.kind }
         ensures payload { payload_of result ≡ self.now.payload.now }
+        ensures fits { Fits result }
     {
         match self.kind {
             Kind::Populate => {
@@ -102,7 +79,7 @@ fn address_and_attributes(bytes: &[u8]) -> (u64, u16)
     let [.., high, low] = bytes else {
         unreachable!()
     };
-    (address(&bytes[..8]), u16::from_be_bytes([*high, *low]))
+    (address(&bytes[..ADDRESS_LEN]), u16::from_be_bytes([*high, *low]))
 }
 
 // The numbers of eight bytes and one.
@@ -110,7 +87,7 @@ fn address_and_access(bytes: &[u8]) -> (u64, u8)
     requires { length bytes.now ≡ 9 }
     ensures { to_be_bytes w64 result.0 ++ result.1 ∷ [] ≡ bytes.now }
 {
-    (address(&bytes[..8]), bytes[8])
+    (address(&bytes[..ADDRESS_LEN]), bytes[ADDRESS_LEN])
 }
 
 // Hands out the records of an input, and then the end or a fault.
@@ -144,7 +121,7 @@ impl<'a> Reader<'a> {
         }
         match first_record(left) {
             Ok((kind, payload)) => {
-                self.position = place + 3 + payload.len();
+                self.position = place + HEAD_LEN + payload.len();
                 Ok(Some(Part {
                     kind,
                     payload,
@@ -159,7 +136,7 @@ impl<'a> Reader<'a> {
 ghost use Rattle.trace_format.specs.Bytes.{Begins, Broken};
 
 // The kind and the payload of the record at the front of these bytes.
-#[tactic(auto, using(crate::proofs::Heads::spelled))]
+#[tactic(auto, using(crate::proofs::Heads::begins))]
 fn first_record(bytes: &[u8]) -> Result<(Kind, &[u8]), Trouble>
     requires { 0 < length bytes.now }
     ensures ok { IfOk result (λ r. Begins bytes.now r.0 r.1.now) }
