@@ -1,5 +1,5 @@
 -- An input is read one way, and what is read is what is spelled.
-use Rattle.std.proofs.Common.{◌≡◌, ℕ, ◌+◌, ◌^◌, ◌<◌, List, [], ◌∷◌, ◌++◌, length, take, drop, Some, None, Option, w16, w64, refl, sym, ap, ap₂, subst, ◌∙◌, arith, append_assoc, length-append, drop-drop}
+use Rattle.std.proofs.Common.{◌≡◌, ℕ, ◌+◌, ◌^◌, ◌<◌, List, [], ◌∷◌, ◌++◌, length, take, drop, Some, None, Option, w16, w64, refl, sym, ap, ap₂, subst, subst₂, ◌∙◌, arith, append_assoc, length-append, drop-drop}
 use Rattle.std.proofs.Math.Seq.{take-append_seam, drop-append_seam}
 use Rattle.std.proofs.lemmas.Nat.{from_be_bytes-to_be_bytes_2, from_be_bytes-to_be_bytes_8}
 use Rattle.std.specs.Int.{to_be_bytes, from_be_bytes}
@@ -11,9 +11,9 @@ use Rattle.trace_format.specs.declared.fault.Trouble.{Trouble}
 use Rattle.trace_format.specs.declared.fault.Trouble.TheVariants.{Cut, UnknownTag, WrongLength}
 use Rattle.trace_format.specs.declared.fault.Fault.{Fault}
 use Rattle.trace_format.specs.Kinds.{tag_of, payload_len}
-use Rattle.trace_format.specs.Bytes.{kind_of, payload_of, Fits, framed, spelled, Begins, Broken}
+use Rattle.trace_format.specs.Bytes.{kind_of, payload_of, Fits, AllFit, framed, spelled, Begins, Broken}
 use Rattle.trace_format.specs.Records.{Ends, Reading}
-use Rattle.trace_format.specs.Laws.{OneTrouble, OneReading, Spells, SpelledAgain}
+use Rattle.trace_format.specs.Laws.{OneTrouble, OneReading, AnswersRead, Spells, SpelledAgain}
 
 tag_apart : (k j : Kind) → tag_of k ≡ tag_of j → k ≡ j
 tag_apart kind.Populate kind.Populate e = refl
@@ -120,19 +120,57 @@ one_reading input place (r ∷ rs) (s ∷ ss) c d x y =
     let (others, endings) = one_reading input (place + 3 + length (payload_of s)) rs ss c d (subst (λ p. Reading input (place + 3 + length p) rs c) payloads x.2) y.2 in
     (ap₂ ◌∷◌ first others, endings)
 
-pub spelled_again : SpelledAgain
-spelled_again input place [] ending x =
+pub answers_are_read : AnswersRead
+answers_are_read = record {
+  none = λ input from to x. x.0;
+  fault = λ input from to fault x. (x.0, x.1);
+  some = λ input from to part first others ending x r y. (
+      r.fits,
+      subst₂ (Begins (drop from input)) (sym r.kind) (sym r.payload) x.2,
+      subst (λ n. Reading input n others ending) (x.1 ∙ ap (λ p. from + 3 + length p) (sym r.payload)) y);
+}
+
+read_spells : (input : List ℕ) (place : ℕ) (rs : List Record) (ending : Option Fault) → Reading input place rs ending → Spells input place rs ending
+read_spells input place [] ending x =
     let here : place ≡ place + 0 = omega arith in
     record { whole = ap (λ n. drop n input) here; behind = subst (λ n. Ends input n ending) here x }
-spelled_again input place (r ∷ rs) ending x =
+read_spells input place (r ∷ rs) ending x =
     let p = payload_of r in
     let own = framed (kind_of r) p in
     let next = place + 3 + length p in
-    let others = spelled_again input next rs ending x.2 in
+    let others = read_spells input next rs ending x.2 in
     let moved : drop (3 + length p) (drop place input) ≡ drop next input = drop-drop (3 + length p) place input ∙ ap (λ n. drop n input) (omega arith) in
-    let long : length (own ++ spelled rs) ≡ 3 + length p + length (spelled rs) = omega (arith, length-append p (spelled rs)) in
-    let there : next + length (spelled rs) ≡ place + length (own ++ spelled rs) = omega arith in
+    let there : next + length (spelled rs) ≡ place + length (own ++ spelled rs) = omega (arith, length-append p (spelled rs)) in
     record {
       whole = x.1.whole ∙ ap (λ s. own ++ s) (moved ∙ others.whole) ∙ sym (append_assoc own (spelled rs) _) ∙ ap (λ n. (own ++ spelled rs) ++ drop n input) there;
       behind = subst (λ n. Ends input n ending) there others.behind;
     }
+
+payload_whole : (r : Record) → length (payload_of r) ≡ payload_len (kind_of r)
+payload_whole (Populate address attributes) = refl
+payload_whole (Release address) = refl
+payload_whole (Protect address attributes) = refl
+payload_whole (Touch address access) = refl
+payload_whole (Try address) = refl
+payload_whole Census = refl
+
+spells_read : (input : List ℕ) (place : ℕ) (rs : List Record) (ending : Option Fault) → AllFit rs → Spells input place rs ending → Reading input place rs ending
+spells_read input place [] ending f x = subst (λ n. Ends input n ending) (omega arith) x.behind
+spells_read input place (r ∷ rs) ending f x =
+    let p = payload_of r in
+    let own = framed (kind_of r) p in
+    let next = place + 3 + length p in
+    let rest = spelled rs ++ drop (place + length (own ++ spelled rs)) input in
+    let whole : drop place input ≡ own ++ rest = x.whole ∙ append_assoc own (spelled rs) _ in
+    let long : 3 + length p ≡ length own = omega arith in
+    let moved : drop (3 + length p) (drop place input) ≡ rest = ap₂ drop long whole ∙ drop-append_seam own rest in
+    let there : place + length (own ++ spelled rs) ≡ next + length (spelled rs) = omega (arith, length-append p (spelled rs)) in
+    let on : drop next input ≡ drop (3 + length p) (drop place input) = ap (λ n. drop n input) (omega arith) ∙ sym (drop-drop (3 + length p) place input) in
+    let others : Spells input next rs ending = record {
+        whole = on ∙ moved ∙ ap (λ n. spelled rs ++ drop n input) there;
+        behind = subst (λ n. Ends input n ending) there x.behind;
+      } in
+    (f.0, record { long = payload_whole r; whole = whole ∙ ap (λ s. own ++ s) (sym moved) }, spells_read input next rs ending f.1 others)
+
+pub spelled_again : SpelledAgain
+spelled_again = record { read = read_spells; written = spells_read }

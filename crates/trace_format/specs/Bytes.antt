@@ -35,6 +35,10 @@ Fits (Touch address access) = (address < 2 ^ 64) × (access < 2 ^ 8)
 Fits (Try address) = address < 2 ^ 64
 Fits Census = Unit {0}
 
+abbrev pub AllFit : List Record → Type 0
+AllFit [] = Unit {0}
+AllFit (first ∷ others) = Fits first × AllFit others
+
 -- a tag, a length in two bytes, high byte first, and a payload
 abbrev pub framed : Kind → List ℕ → List ℕ
 framed kind payload = tag_of kind ∷ 0 ∷ payload_len kind ∷ payload

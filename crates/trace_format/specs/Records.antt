@@ -12,6 +12,12 @@ input_of r = r.input.now
 abbrev pub place_of : Reader → ℕ
 place_of r = r.position
 
+-- the record with its numbers
+pub record IsRecordOf (part : Part) (numbers : Record) : Type 0 where
+  pub kind : kind_of numbers ≡ part.kind
+  pub payload : payload_of numbers ≡ part.payload.now
+  pub fits : Fits numbers
+
 -- from one place on, a reader of the input gives this answer and goes on to another place
 abbrev pub Reads : List ℕ → ℕ → Result (Option Part) Fault → ℕ → Type 0
 Reads input from (Ok None) to = (drop from input ≡ []) × (to ≡ from)

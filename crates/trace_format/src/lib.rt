@@ -8,7 +8,7 @@ mod reader;
 mod record;
 
 pub use fault::{Fault, ShortBuffer, Trouble};
-pub use laws::{one_line_for_a_text, one_reading, one_trouble, spelled_again};
+pub use laws::{answers_are_read, one_line_for_a_text, one_reading, one_trouble, spelled_again};
 pub use line::{LINE_ROOM, Line, Mark, write_line};
 pub use reader::{Part, Reader};
 pub use record::{Kind, Record};

@@ -22,13 +22,11 @@ pub struct Part<'a> {
 }
 
 impl<'a> Part<'a> {
-    ghost use Rattle.trace_format.specs.Bytes.{kind_of, payload_of, Fits};
+    ghost use Rattle.trace_format.specs.Records.{IsRecordOf};
 
     // The record with its numbers.
     pub fn record(&self) -> Record
-        ensures kind { kind_of result ≡ self.now.kind }
-        ensures payload { payload_of result ≡ self.now.payload.now }
-        ensures fits { Fits result }
+        ensures { IsRecordOf self.now result }
     {
         match self.kind {
             Kind::Populate => {
