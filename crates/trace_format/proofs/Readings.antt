@@ -26,9 +26,10 @@ tag_apart k j e = absurd (omega (arith, e))
 
 -- two texts that begin with parts of one length
 same_parts : (a b x y : List ℕ) → length a ≡ length b → a ++ x ≡ b ++ y → (a ≡ b) × (x ≡ y)
-same_parts a b x y n e =
-    (sym (take-append_seam a x) ∙ ap₂ take n e ∙ take-append_seam b y,
-     sym (drop-append_seam a x) ∙ ap₂ drop n e ∙ drop-append_seam b y)
+same_parts a b x y n e = (
+  sym (take-append_seam a x) ∙ ap₂ take n e ∙ take-append_seam b y,
+  sym (drop-append_seam a x) ∙ ap₂ drop n e ∙ drop-append_seam b y,
+)
 
 one_record : (bytes : List ℕ) (k j : Kind) (p q : List ℕ) → Begins bytes k p → Begins bytes j q → (k ≡ j) × (p ≡ q)
 one_record bytes k j p q b c =
@@ -125,9 +126,10 @@ answers_are_read = record {
   none = λ input from to x. x.0;
   fault = λ input from to fault x. (x.0, x.1);
   some = λ input from to part first others ending x r y. (
-      r.fits,
-      subst₂ (Begins (drop from input)) (sym r.kind) (sym r.payload) x.2,
-      subst (λ n. Reading input n others ending) (x.1 ∙ ap (λ p. from + 3 + length p) (sym r.payload)) y);
+    r.fits,
+    subst₂ (Begins (drop from input)) (sym r.kind) (sym r.payload) x.2,
+    subst (λ n. Reading input n others ending) (x.1 ∙ ap (λ p. from + 3 + length p) (sym r.payload)) y,
+  );
 }
 
 read_spells : (input : List ℕ) (place : ℕ) (rs : List Record) (ending : Option Fault) → Reading input place rs ending → Spells input place rs ending
@@ -167,9 +169,9 @@ spells_read input place (r ∷ rs) ending f x =
     let there : place + length (own ++ spelled rs) ≡ next + length (spelled rs) = omega (arith, length-append p (spelled rs)) in
     let on : drop next input ≡ drop (3 + length p) (drop place input) = ap (λ n. drop n input) (omega arith) ∙ sym (drop-drop (3 + length p) place input) in
     let others : Spells input next rs ending = record {
-        whole = on ∙ moved ∙ ap (λ n. spelled rs ++ drop n input) there;
-        behind = subst (λ n. Ends input n ending) there x.behind;
-      } in
+      whole = on ∙ moved ∙ ap (λ n. spelled rs ++ drop n input) there;
+      behind = subst (λ n. Ends input n ending) there x.behind;
+    } in
     (f.0, record { long = payload_whole r; whole = whole ∙ ap (λ s. own ++ s) (sym moved) }, spells_read input next rs ending f.1 others)
 
 pub spelled_again : SpelledAgain

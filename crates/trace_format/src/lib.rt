@@ -6,6 +6,8 @@ mod laws;
 mod line;
 mod reader;
 mod record;
+#[cfg(test)]
+mod tests;
 
 pub use fault::{Fault, ShortBuffer, Trouble};
 pub use laws::{answers_are_read, one_line_for_a_text, one_reading, one_trouble, spelled_again};

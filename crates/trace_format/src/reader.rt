@@ -77,7 +77,10 @@ fn address_and_attributes(bytes: &[u8]) -> (u64, u16)
     let [.., high, low] = bytes else {
         unreachable!()
     };
-    (address(&bytes[..ADDRESS_LEN]), u16::from_be_bytes([*high, *low]))
+    (
+        address(&bytes[..ADDRESS_LEN]),
+        u16::from_be_bytes([*high, *low]),
+    )
 }
 
 // The numbers of eight bytes and one.
