@@ -1,5 +1,5 @@
 -- Lines that differ have texts that differ.
-use Rattle.std.proofs.Common.{◌≡◌, ℕ, ◌+◌, ◌^◌, ◌<◌, List, [], ◌∷◌, ◌++◌, length, get_or, append-nil, append_assoc, decimal, codes, refl, sym, ap, ap₂, ◌∙◌, arith}
+use Rattle.std.proofs.Common.{◌≡◌, ℕ, ◌^◌, ◌<◌, List, [], ◌∷◌, ◌++◌, length, get_or, append-nil, append_assoc, decimal, codes, refl, sym, ap, ap₂, ◌∙◌, arith}
 use Rattle.std.proofs.lemmas.List.{append_cancel_right}
 use Rattle.std.proofs.lemmas.Fmt.{decimal_is_IsNumeral, decimal_injective}
 use Rattle.std.specs.Str.Parse.{AllDigits}
@@ -12,7 +12,7 @@ use Rattle.trace_format.specs.declared.line.Mark.TheVariants.{Hit, Missed}
 use Rattle.trace_format.specs.declared.line.Line.{Line}
 use Rattle.trace_format.specs.declared.line.Line.TheVariants.{Populated, Released, Protected, Touched, Tried, Counted, Refused, Faulted}
 use Rattle.trace_format.specs.Faults.{trouble_number}
-use Rattle.trace_format.specs.Lines.{letter_of, mark_letter, words_of, FiguresFit, text_of}
+use Rattle.trace_format.specs.Lines.{letter_of, mark_letter, words_of, FiguresFit}
 use Rattle.trace_format.specs.Laws.{OneLine}
 
 letter_apart : (k j : Kind) → letter_of k ≡ letter_of j → k ≡ j

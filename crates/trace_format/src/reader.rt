@@ -12,7 +12,7 @@ const HEAD_LEN: usize = 3;
 const ADDRESS_LEN: usize = 8;
 
 // A record as it stands in an input: its payload is the part of the input that it is.
-#[derive(Clone, Copy)]
+#[derive(Clone, Copy, PartialEq, Eq, Debug)]
 pub struct Part<'a> {
     pub kind: Kind,
     pub payload: &'a [u8],
@@ -92,7 +92,7 @@ fn address_and_access(bytes: &[u8]) -> (u64, u8)
 }
 
 // Hands out the records of an input, and then the end or a fault.
-#[derive(Drop)]
+#[derive(Debug, Drop)]
 pub struct Reader<'a> {
     input: &'a [u8],
     position: usize,
