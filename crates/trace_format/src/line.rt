@@ -1,5 +1,5 @@
 // The lines that are written of a trace, to the front of a lent buffer.
-ghost use Rattle.std.specs.Prelude.{◌≡◌, ◌+◌, ◌<◌, ◌≤◌, [], ◌∷◌, ◌++◌, length, IfOk, OnOk, OnErr};
+ghost use Rattle.std.specs.Prelude.{◌≡◌, ◌+◌, ◌<◌, ◌≤◌, ◌∷◌, ◌++◌, length, IfOk, OnErr};
 ghost use Rattle.arrayvec.specs.ArrayVec.{array_vec_len};
 ghost use Rattle.trace_format.specs.Lines.{letter_of, mark_letter, words_of, text_of, HasLine};
 ghost use Rattle.trace_format.specs.declared.line.Line.TheVariants as line;

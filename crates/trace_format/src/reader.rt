@@ -1,7 +1,8 @@
 // Reads a trace record by record.
-ghost use Rattle.std.specs.Prelude.{◌≡◌, ◌<◌, ◌≤◌, ◌++◌, ◌∷◌, [], length, IfSome, IfNone, IfOk, IfErr};
+ghost use Rattle.std.specs.Prelude.{◌≡◌, ◌<◌, ◌≤◌, ◌++◌, ◌∷◌, [], length, IfOk, IfErr};
 ghost use Rattle.std.specs.Int.{to_be_bytes, w16, w64};
 ghost use Rattle.trace_format.specs.Kinds.{payload_len};
+ghost use Rattle.trace_format.specs.Bytes.{Begins, Broken};
 
 use crate::fault::{Fault, Trouble};
 use crate::record::{Kind, Record};
@@ -133,8 +134,6 @@ impl<'a> Reader<'a> {
         }
     }
 }
-
-ghost use Rattle.trace_format.specs.Bytes.{Begins, Broken};
 
 // The kind and the payload of the record at the front of these bytes.
 #[tactic(auto, using(crate::proofs::Heads::begins))]
