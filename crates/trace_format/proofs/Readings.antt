@@ -68,7 +68,7 @@ same_trouble (tag ∷ high ∷ low ∷ rest) Cut WrongLength b c = absurd (c.2 (
 same_trouble (tag ∷ high ∷ low ∷ rest) WrongLength Cut b c = absurd (b.2 (c.2 ∙ ap payload_len (tag_apart c.0 b.0 (c.1 ∙ sym b.1))))
 
 pub one_trouble : OneTrouble
-one_trouble = record { trouble = same_trouble; begun = one_record; apart = not_begun }
+one_trouble = record { one = same_trouble; begun = one_record; apart = not_begun }
 
 same_address : (a b : ℕ) → a < 2 ^ 64 → b < 2 ^ 64 → to_be_bytes w64 a ≡ to_be_bytes w64 b → a ≡ b
 same_address a b f g e = sym (from_be_bytes-to_be_bytes_8 a f) ∙ ap (from_be_bytes w64) e ∙ from_be_bytes-to_be_bytes_8 b g

@@ -12,9 +12,10 @@ use Rattle.trace_format.specs.Lines.{FiguresFit, text_of}
 
 -- some bytes begin with one record, or one thing is wrong with them, and not both
 pub record OneTrouble : Type 0 where
-  pub trouble : (bytes : List ℕ) (t u : Trouble) → Broken bytes t → Broken bytes u → t ≡ u
-  pub begun : (bytes : List ℕ) (k j : Kind) (p q : List ℕ) → Begins bytes k p → Begins bytes j q → (k ≡ j) × (p ≡ q)
-  pub apart : (bytes : List ℕ) (t : Trouble) (k : Kind) (p : List ℕ) → Broken bytes t → Begins bytes k p → ⊥
+  pub one : (bytes : List ℕ) (trouble other : Trouble) → Broken bytes trouble → Broken bytes other → trouble ≡ other
+  pub begun : (bytes : List ℕ) (kind other : Kind) (payload another : List ℕ)
+      → Begins bytes kind payload → Begins bytes other another → (kind ≡ other) × (payload ≡ another)
+  pub apart : (bytes : List ℕ) (trouble : Trouble) (kind : Kind) (payload : List ℕ) → Broken bytes trouble → Begins bytes kind payload → ⊥
 
 -- two readings of one input from one place are the same, and end alike
 abbrev pub OneReading : Type 0
@@ -28,7 +29,8 @@ pub record AnswersRead : Type 0 where
   pub none : (input : List ℕ) (from to : ℕ) → Reads input from (Ok None) to → Reading input from [] None
   pub fault : (input : List ℕ) (from to : ℕ) (fault : Fault) → Reads input from (Err fault) to → Reading input from [] (Some fault)
   pub some : (input : List ℕ) (from to : ℕ) (part : Part) (first : Record) (others : List Record) (ending : Option Fault)
-      → Reads input from (Ok (Some part)) to → IsRecordOf part first → Reading input to others ending → Reading input from (first ∷ others) ending
+      → Reads input from (Ok (Some part)) to → IsRecordOf part first → Reading input to others ending
+      → Reading input from (first ∷ others) ending
 
 -- the records, spelled out, stand in the input from this place on, and behind them it ends so
 pub record Spells (input : List ℕ) (place : ℕ) (records : List Record) (ending : Option Fault) : Type 0 where
@@ -44,4 +46,4 @@ pub record SpelledAgain : Type 0 where
 
 -- two lines that differ never have one text
 abbrev pub OneLine : Type 0
-OneLine = (l m : Line) → FiguresFit l → FiguresFit m → text_of l ≡ text_of m → l ≡ m
+OneLine = (line other : Line) → FiguresFit line → FiguresFit other → text_of line ≡ text_of other → line ≡ other
