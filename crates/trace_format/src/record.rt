@@ -1,6 +1,7 @@
 // The records of a trace.
 ghost use Rattle.std.specs.Prelude.{◌≡◌, IfSome, IfNone};
 ghost use Rattle.trace_format.specs.Kinds.{tag_of, payload_len, IsUnknown};
+ghost use Rattle.trace_format.specs.Bytes.{kind_of};
 
 // What a record asks for.
 #[derive(Clone, Copy, PartialEq, Eq, Debug)]
@@ -22,6 +23,21 @@ pub enum Record {
     Touch { address: u64, access: u8 },
     Try { address: u64 },
     Census,
+}
+
+impl Record {
+    pub fn kind(self) -> Kind
+        ensures { result ≡ kind_of self }
+    {
+        match self {
+            Record::Populate { .. } => Kind::Populate,
+            Record::Release { .. } => Kind::Release,
+            Record::Protect { .. } => Kind::Protect,
+            Record::Touch { .. } => Kind::Touch,
+            Record::Try { .. } => Kind::Try,
+            Record::Census => Kind::Census,
+        }
+    }
 }
 
 impl Kind {
