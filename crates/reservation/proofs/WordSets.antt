@@ -1,16 +1,16 @@
 -- Sets of numbers as bits of words: one number in or out, and the first one from a number on.
-use Rattle.std.proofs.Common.{◌≡◌, ℕ, zero, suc, ◌+◌, ◌-◌, ◌*◌, ◌/◌, ◌%◌, ◌^◌, ◌<◌, ◌≤◌, Bool, true, false, cond, not, ◌&&◌, ◌||◌, eqb, ltb, ◌≢◌, List, length, get_or, set, replicate, sym, refl, ap, ◌∙◌, ⊎_elim, arith}
+use Rattle.std.proofs.Common.{◌≡◌, ℕ, zero, suc, ◌+◌, ◌-◌, ◌*◌, ◌/◌, ◌%◌, ◌^◌, ◌<◌, ◌≤◌, Bool, true, false, cond, not, ◌&&◌, ◌||◌, eqb, ltb, ◌≢◌, List, length, get_or, set, replicate, sym, refl, ap, ◌∙◌, subst, ⊎_elim, arith}
 use mathlib.Core.Path.{fun_ext}
 use native.Mathlib.Nat.{zero-div}
 use lib.Bits.{bit_and, bit_or}
 use lib.Count.{count_trailing_zeros, under}
-use Rattle.std.proofs.lemmas.Nat.{shr-shr}
+use Rattle.std.proofs.lemmas.Nat.{shr-shr, shr_le}
 use Rattle.std.proofs.lemmas.List.{get_or-set_same, get_or-set_other, get_or_past, get_or-replicate, length-replicate}
 use Rattle.std.proofs.lemmas.Bool.{cases_eq, cases_lt, both_ways, eq-eqb, ne_eqb, eqb-true, lt-ltb, le-ltb, cond-true, cond-false}
 use Rattle.words.specs.Layout.{bit}
 use Rattle.words.specs.Points.{at}
-use Rattle.words.proofs.Flip.{no_bit, one_bit, complement_bit, cleared_bit, joined_bit}
-use Rattle.reservation.specs.Sets.{in_words, FirstFrom}
+use Rattle.words.proofs.Flip.{no_bit, one_bit, high_bit, complement_bit, cleared_bit, joined_bit}
+use Rattle.reservation.specs.Sets.{in_words, NoneFrom, FirstFrom}
 
 pub half_bit : (w j : ℕ) → bit w (suc j) ≡ bit (w / 2) j
 half_bit w j = ap (λ x. eqb (x % 2) 1) (ap (λ k. w / 2 ^ k) (omega arith) ∙ sym (shr-shr w 1 j))
@@ -77,29 +77,95 @@ put_word ws k v on l e = fun_ext (λ j.
     ap (λ x. bit x (j % 64)) (get_or-set_other ws (k / 64) (j / 64) v 0 ne) ∙ sym (cond-false _ _ _ (ne_eqb j k (λ x. s (ap (λ y. y / 64) x)))))
     (cases_eq (j / 64) (k / 64)))
 
--- the first number of a set is in the first word that is not zero
+-- no number past the words is in
+pub past_words : (ws : List ℕ) (a : ℕ) → length ws ≤ a / 64 → NoneFrom (in_words ws) a
+past_words ws a l k h = ap (λ x. bit x (k % 64)) (get_or_past ws (k / 64) 0 (omega arith)) ∙ no_bit (k % 64)
+
+-- a number that is in has a word
+pub in_words_below : (ws : List ℕ) (k : ℕ) → in_words ws k ≡ true → k < 64 * length ws
+in_words_below ws k h = ⊎_elim (λ l. l) (λ l. absurd (both_ways _ (past_words ws k (omega arith) k (omega arith)) h)) (cases_lt k (64 * length ws))
+
 at_word : (ws : List ℕ) (i j : ℕ) → j / 64 ≡ i → in_words ws j ≡ bit (get_or ws i 0) (j % 64)
 at_word ws i j e = ap (λ x. bit (get_or ws x 0) (j % 64)) e
 
--- a whole word, where the words before it have nothing
-pub first_in : (ws : List ℕ) (a i : ℕ) → ((j : ℕ) → a ≤ j → j < 64 * i → in_words ws j ≡ false) → a ≤ 64 * i → get_or ws i 0 < 2 ^ 64 → 0 < get_or ws i 0 → FirstFrom (in_words ws) a (64 * i + count_trailing_zeros 64 (get_or ws i 0))
-first_in ws a i none le h p =
-    let low = lowest_bit 64 (get_or ws i 0) p h in
-    let t = count_trailing_zeros 64 (get_or ws i 0) in
-    let s = low.small in
-    let e : (64 * i + t) % 64 ≡ t = omega arith in
+-- what is left of a word from a bit on
+first_left : (ws : List ℕ) (a : ℕ) → get_or ws (a / 64) 0 < 2 ^ 64 → 0 < get_or ws (a / 64) 0 / 2 ^ (a % 64) → FirstFrom (in_words ws) a (a + count_trailing_zeros 64 (get_or ws (a / 64) 0 / 2 ^ (a % 64)))
+first_left ws a h p =
+    let w = get_or ws (a / 64) 0 in
+    let s = a % 64 in
+    let low = lowest_bit 64 (w / 2 ^ s) p (lower w s h) in
+    let t = count_trailing_zeros 64 (w / 2 ^ s) in
+    let up : bit w (s + t) ≡ true = sym (moved w s t) ∙ low.here in
+    let l : s + t < 64 = ⊎_elim (λ x. x) (λ x. absurd (both_ways _ (high_bit 64 (s + t) w h x) up)) (cases_lt (s + t) 64) in
+    let e : (a + t) % 64 ≡ s + t = omega arith in
     record {
       from = omega arith;
-      here = at_word ws i (64 * i + t) (omega arith) ∙ ap (bit (get_or ws i 0)) e ∙ low.here;
-      before = λ j x y. ⊎_elim
-          (none j x)
-          (λ z. at_word ws i j (omega arith) ∙ low.before (j % 64) (omega arith))
-          (cases_lt j (64 * i));
+      here = at_word ws (a / 64) (a + t) (omega arith) ∙ ap (bit w) e ∙ up;
+      before = λ j x y.
+          let f : j % 64 ≡ s + (j - a) = omega arith in
+          at_word ws (a / 64) j (omega arith) ∙ ap (bit w) f ∙ sym (moved w s (j - a)) ∙ low.before (j - a) (omega arith);
     }
+  where
+    moved : (w s j : ℕ) → bit (w / 2 ^ s) j ≡ bit w (s + j)
+    moved w s j = ap (λ x. eqb (x % 2) 1) (shr-shr w s j)
 
--- words of zero have nothing
-pub none_before : (ws : List ℕ) (i : ℕ) → ((k : ℕ) → k < i → get_or ws k 0 ≡ 0) → (j : ℕ) → 0 ≤ j → j < 64 * i → in_words ws j ≡ false
-none_before ws i z j x l = ap (λ w. bit w (j % 64)) (z (j / 64) (omega arith)) ∙ no_bit (j % 64)
+    lower : (w s : ℕ) → w < 2 ^ 64 → w / 2 ^ s < 2 ^ 64
+    lower w s h = let a = shr_le w s in omega arith
+
+-- what is left of a word has nothing
+none_left : (ws : List ℕ) (a : ℕ) → get_or ws (a / 64) 0 / 2 ^ (a % 64) ≡ 0 → (j : ℕ) → a ≤ j → j < 64 * (a / 64 + 1) → in_words ws j ≡ false
+none_left ws a z j x y =
+    let w = get_or ws (a / 64) 0 in
+    let e : j % 64 ≡ a % 64 + (j - a) = omega arith in
+    at_word ws (a / 64) j (omega arith) ∙ ap (bit w) e
+    ∙ ap (λ v. eqb (v % 2) 1) (sym (shr-shr w (a % 64) (j - a)))
+    ∙ ap (λ v. bit v (j - a)) z ∙ no_bit (j - a)
+
+-- the search for the first number from a on has come to b, in the word i, and r is what is left of the word from there on
+pub record Searched (ws : List ℕ) (a i b r : ℕ) : Type 0 where
+  pub from : a ≤ b
+  pub word : b / 64 ≡ i
+  pub within : i < length ws
+  pub fits : get_or ws i 0 < 2 ^ 64
+  pub rest : r ≡ get_or ws i 0 / 2 ^ (b % 64)
+  pub none : (j : ℕ) → a ≤ j → j < b → in_words ws j ≡ false
+
+left_of : (ws : List ℕ) (a i b r : ℕ) → Searched ws a i b r → get_or ws (b / 64) 0 / 2 ^ (b % 64) ≡ r
+left_of ws a i b r s = ap (λ x. get_or ws x 0 / 2 ^ (b % 64)) s.word ∙ sym s.rest
+
+none_in_word : (ws : List ℕ) (a i b r : ℕ) → Searched ws a i b r → r ≡ 0 → (j : ℕ) → a ≤ j → j < 64 * (i + 1) → in_words ws j ≡ false
+none_in_word ws a i b r s z j x y = let e = s.word in ⊎_elim (s.none j x) (λ l. none_left ws b (left_of ws a i b r s ∙ z) j l (omega arith)) (cases_lt j b)
+
+-- at the word, in the next one, past the last one, and where a bit is left
+pub search_begun : (ws : List ℕ) (a w : ℕ) → a / 64 < length ws → w < 2 ^ 64 → w ≡ get_or ws (a / 64) 0 → Searched ws a (a / 64) a (w / 2 ^ (a % 64))
+search_begun ws a w l h e = record { from = omega arith; word = refl; within = l; fits = omega arith; rest = ap (λ x. x / 2 ^ (a % 64)) e; none = λ j x y. absurd (omega arith) }
+
+pub search_goes_on : (ws : List ℕ) (a i b r w : ℕ) → Searched ws a i b r → r ≡ 0 → i + 1 < length ws → w < 2 ^ 64 → w ≡ get_or ws (i + 1) 0 → Searched ws a (i + 1) (64 * (i + 1)) w
+search_goes_on ws a i b r w s z l h e =
+    let m = s.from in
+    let n = s.word in
+    record {
+      from = omega arith;
+      word = omega arith;
+      within = l;
+      fits = omega arith;
+      rest = e ∙ whole _ _ (omega arith);
+      none = none_in_word ws a i b r s z;
+    }
+  where
+    whole : (v k : ℕ) → k ≡ 0 → v ≡ v / 2 ^ k
+    whole v k z = omega arith ∙ ap (λ x. v / 2 ^ x) (sym z)
+
+pub search_ended : (ws : List ℕ) (a i b r : ℕ) → Searched ws a i b r → r ≡ 0 → length ws ≤ i + 1 → NoneFrom (in_words ws) a
+search_ended ws a i b r s z l j x = ⊎_elim (none_in_word ws a i b r s z j x) (λ h. past_words ws j (omega arith) j (omega arith)) (cases_lt j (64 * (i + 1)))
+
+pub search_found : (ws : List ℕ) (a i b r k : ℕ) → Searched ws a i b r → 0 < r → k ≡ b + count_trailing_zeros 64 r → FirstFrom (in_words ws) a k
+search_found ws a i b r k s p e =
+    let m = s.from in
+    let fits = subst (λ x. get_or ws x 0 < 2 ^ 64) (sym s.word) s.fits in
+    let f = subst (λ x. 0 < x → FirstFrom (in_words ws) b (b + count_trailing_zeros 64 x)) (left_of ws a i b r s) (first_left ws b fits) p in
+    let n = f.from in
+    record { from = omega arith; here = ap (in_words ws) e ∙ f.here; before = λ j x y. ⊎_elim (s.none j x) (λ l. f.before j l (omega arith)) (cases_lt j b) }
 
 -- sets that are empty, and full
 pub no_words : (n k : ℕ) → in_words (replicate n 0) k ≡ false

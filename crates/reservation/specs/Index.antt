@@ -1,5 +1,5 @@
 -- The reserved groups, by the bucket of their block.
-use Rattle.std.specs.Prelude.{◌≡◌, ℕ, zero, suc, Bool, true, false, List, [], ◌∷◌, filter, ◌≢◌}
+use Rattle.std.specs.Prelude.{◌≡◌, ℕ, zero, suc, ◌-◌, Bool, true, false, List, [], ◌∷◌, filter, ◌≢◌}
 use Rattle.std.specs.List.{range_with_len}
 use Rattle.words.specs.Points.{at}
 use Rattle.reservation.specs.declared.bit_set.BitSet.{BitSet}
@@ -25,7 +25,7 @@ passing test a n = filter test (range_with_len a n)
 
 -- the groups that are still to come, the lowest first
 abbrev pub groups_left : Groups → List ℕ
-groups_left x = passing (has x.left) 0 256
+groups_left x = passing (has x.bucket.now) x.from (256 - x.from)
 
 -- the group g is in the bucket of its block, where it has one, and in no other
 abbrev pub ListedAs : BlockIndex → ℕ → Usage → Type 0

@@ -35,7 +35,7 @@ impl AgeOrder {
     pub(crate) fn oldest(&self) -> Option<u8>
         ensures { MatchOption result ((g : ℕ) → waits self.now g ≡ false) (λ g. Oldest self.now g) }
     {
-        let rank = self.waiting.first()?;
+        let rank = self.waiting.first_from(0)?;
         Some(self.groups[rank])
     }
 

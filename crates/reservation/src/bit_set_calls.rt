@@ -46,13 +46,21 @@ impl<const N: usize> BitSet<N> {
         self.words[number / 64] = with_bit(self.words[number / 64], number % 64, on);
     }
 
-    // The lowest number of the set.
-    pub(crate) fn first(&self) -> Option<usize>
+    // The lowest number of the set from the given one on.
+    pub(crate) fn first_from(&self, from: usize) -> Option<usize>
         requires { N ≤ 1024 }
-        ensures first { MatchOption result (NoneFrom (has self.now) 0) (λ k. FirstFrom (has self.now) 0 k) }
+        ensures first { MatchOption result (NoneFrom (has self.now) from) (λ k. FirstFrom (has self.now) from k) }
         ensures within { IfSome result (λ k. k < 64 * N) }
     {
-        let i = self.words.iter().position(|word| *word != 0)?;
-        Some(64 * i + self.words[i].trailing_zeros() as usize)
+        // `rest` is what is left of the word at `i`: its bit 0 says whether the number `begin` is in.
+        let mut i = from / 64;
+        let mut begin = from;
+        let mut rest = *self.words.get(i)? >> (from % 64);
+        while rest == 0 {
+            i += 1;
+            begin = 64 * i;
+            rest = *self.words.get(i)?;
+        }
+        Some(begin + rest.trailing_zeros() as usize)
     }
 }

@@ -6,8 +6,9 @@ pub struct BlockIndex {
     pub(crate) buckets: [BitSet<4>; 64],
 }
 
-// Groups that are still to come, the lowest first.
+// The groups of a bucket that are still to come, the lowest first: those from a number on.
 #[derive(Drop)]
-pub struct Groups {
-    pub(crate) left: BitSet<4>,
+pub struct Groups<'a> {
+    pub(crate) bucket: &'a BitSet<4>,
+    pub(crate) from: usize,
 }

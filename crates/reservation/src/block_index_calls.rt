@@ -12,11 +12,11 @@ use crate::block_index::{BlockIndex, Groups};
 use crate::group::Usage;
 use words::Block;
 
-// The lowest group of a set.
-pub(crate) fn lowest(groups: &BitSet<4>) -> Option<u8>
-    ensures { MatchOption result (NoneFrom (has groups.now) 0) (λ g. FirstFrom (has groups.now) 0 g) }
+// The lowest group of a set from the given number on.
+pub(crate) fn lowest_from(groups: &BitSet<4>, from: usize) -> Option<u8>
+    ensures { MatchOption result (NoneFrom (has groups.now) from) (λ g. FirstFrom (has groups.now) from g) }
 {
-    Some(groups.first()? as u8)
+    Some(groups.first_from(from)? as u8)
 }
 
 impl BlockIndex {
@@ -47,17 +47,19 @@ impl BlockIndex {
         }
     }
 
-    // The groups of a block's bucket: the four words of its set, which are used up.
-    pub(crate) fn groups(&self, block: Block) -> Groups
-        ensures { has result.left ≡ in_bucket self.now (bucket_of block.number) }
+    // The groups of a block's bucket, all of them still to come.
+    pub(crate) fn groups(&self, block: Block) -> Groups<'_>
+        ensures bucket { has result.bucket.now ≡ in_bucket self.now (bucket_of block.number) }
+        ensures all { result.from ≡ 0 }
     {
         Groups {
-            left: self.buckets[block.bucket()],
+            bucket: &self.buckets[block.bucket()],
+            from: 0,
         }
     }
 }
 
-impl Iterator for Groups {
+impl<'a> Iterator for Groups<'a> {
     type Item = u8;
 
     ghost next_gives = { YieldsFirst groups_left };
@@ -66,8 +68,8 @@ impl Iterator for Groups {
 
     #[tactic(auto, using(crate::proofs::Members::passing_none, crate::proofs::Members::next_left))]
     fn next(&mut self) -> Option<u8> {
-        let group = lowest(&self.left)?;
-        self.left.put(usize::from(group), false);
+        let group = lowest_from(self.bucket, self.from)?;
+        self.from = usize::from(group) + 1;
         Some(group)
     }
 }

@@ -4,7 +4,7 @@ ghost use Rattle.words.specs.Layout.{bit};
 ghost use Rattle.reservation.specs.Groups.{is_broken, waits_in, has_in, block_use, In};
 ghost use Rattle.reservation.specs.Reservation.{group_of, NoGroup, NoOpen, LowestOpen, NoSpare, NoneIn, OnlyFor, Longest, NoOwn, Chosen};
 
-use crate::block_index_calls::lowest;
+use crate::block_index_calls::lowest_from;
 use crate::group::{Choice, Step};
 use crate::reservation::ReservationAllocator;
 use crate::spot::Spot;
@@ -77,7 +77,7 @@ impl ReservationAllocator {
         ensures first { MatchOption result (NoOpen self.now) (λ g. LowestOpen self.now g) }
         ensures whole { IfSome result (λ g. (group_of self.now g).out.bits ≡ 0) }
     {
-        lowest(&self.open_groups)
+        lowest_from(&self.open_groups, 0)
     }
 
     // A broken group with a frame in.
@@ -85,7 +85,7 @@ impl ReservationAllocator {
     fn lowest_spare(&self) -> Option<u8>
         ensures { MatchOption result (NoSpare self.now) (λ g. (is_broken (group_of self.now g) ≡ true) × (has_in (group_of self.now g) ≡ true)) }
     {
-        lowest(&self.spare_groups)
+        lowest_from(&self.spare_groups, 0)
     }
 
     // The group reserved longest ago that has a frame in.
