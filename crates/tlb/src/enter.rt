@@ -6,7 +6,7 @@ use crate::entry::Entry;
 use crate::slot::Slot;
 use words::{Page, Translation};
 
-pub trait Enter: Slot {
+pub trait Enter: Slot + Copy {
     // The row before and after room is made for an entry that is loaded for a page, and between them the place that was found for it,
     // if one was.
     ghost room: { MakesRoom Self };

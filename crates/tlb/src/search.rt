@@ -44,7 +44,7 @@ pub fn purge<S: Slot>(slots: &mut [Option<S>], page: Page)
 }
 
 // Empties the slot at the hand, and moves the hand on; the place of that slot.
-pub fn vacate<S: Slot>(slots: &mut [Option<S>; 64], hand: &mut Hand) -> usize
+pub fn vacate<S: Slot + Drop>(slots: &mut [Option<S>; 64], hand: &mut Hand) -> usize
     ensures place { result ≡ hand.old.at }
     ensures emptied { slots.new ≡ slice_set slots.old result None }
     ensures moved { hand.new.at ≡ next_slot hand.old.at }

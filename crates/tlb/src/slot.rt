@@ -4,7 +4,7 @@ ghost use Rattle.tlb.specs.Slots.{Holding, Dropping, Keeping, Becomes, SlotLaws}
 
 use words::{Page, Translation};
 
-pub trait Slot: Copy {
+pub trait Slot {
     // What the slot holds for each page.
     ghost held: { Holding Self };
 
