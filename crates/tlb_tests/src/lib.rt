@@ -1,15 +1,18 @@
-// Examples of the TLBs: more loads than slots, purges between, and three levels.
+// Examples of the TLBs: more loads than slots, purges between, three levels, and a kind of slot that is not copied.
 #![tactic(auto)]
 
 mod counting;
+mod owned;
 
 pub use counting::CountingTlb;
+pub use owned::OwnedSlot;
 
 #[cfg(test)]
 mod tests {
     use crate::counting::CountingTlb;
+    use crate::owned::OwnedSlot;
     use std::test::Fail;
-    use tlb::{Entry, OnePageTlb, PartialSubblockTlb, Tlb, TwoLevelTlb};
+    use tlb::{Entry, OnePageTlb, PartialSubblockTlb, Tlb, TwoLevelTlb, find, place, purge};
     use words::{CompactWord, FullWord, OffsetSet, Page, Translation, Word};
 
     // As in the tests of the reservation: a crate for this one line would be no plainer.
@@ -166,6 +169,42 @@ mod tests {
         load_page(&mut tlb, 64, 7, 3)?;
         assert_eq!(rt; frame_of(&mut tlb, 0), None, "the hand was still at slot 0");
         assert_eq!(rt; frame_of(&mut tlb, 1), Some(0x1001));
+        Ok(())
+    }
+
+    // A slot that holds the page with the frame.
+    fn slot_of(number: u32, frame: u32) -> Result<OwnedSlot, Fail> {
+        let translation = Translation::new(frame, 3).ok_or_else(|| Fail::new(
+            "frame out of range",
+        ))?;
+        Ok(OwnedSlot {
+            page: page(number),
+            translation,
+        })
+    }
+
+    fn found_frame(slots: &[Option<OwnedSlot>], number: u32) -> Option<u32> {
+        let translation = find(slots, page(number))?;
+        Some(translation.frame)
+    }
+
+    #[test]
+    fn slots_that_are_not_copied(rt: HostRuntime) -> Result<(), Fail> {
+        let mut slots = [
+            None,
+            Some(slot_of(7, 0x1007)?),
+            Some(slot_of(5, 0x1005)?),
+            Some(slot_of(5, 0x2005)?),
+        ];
+        assert_eq!(rt; place(&slots, page(5)), Some(2), "the first of two");
+        assert_eq!(rt; found_frame(&slots, 5), Some(0x1005));
+        assert_eq!(rt; place(&slots, page(6)), None);
+        assert_eq!(rt; found_frame(&slots, 6), None);
+        purge(&mut slots, page(5));
+        assert_eq!(rt; place(&slots, page(5)), None, "both were emptied");
+        assert_eq!(rt; found_frame(&slots, 5), None);
+        assert_eq!(rt; place(&slots, page(7)), Some(1));
+        assert_eq!(rt; found_frame(&slots, 7), Some(0x1007));
         Ok(())
     }
 }
