@@ -75,7 +75,8 @@ fn agree(rt: &HostRuntime, name: &str, outcome: Result<u32, Stop>) -> anyhow::Re
     report(rt, name, outcome)?;
     match outcome {
         Ok(_) => Ok(()),
-        Err(_) => Err(anyhow!("the answers do not agree")),
+        Err(Stop::Differs { .. }) => Err(anyhow!("the answers do not agree")),
+        Err(Stop::Faulty { .. }) => Err(anyhow!("the comparison stopped")),
     }
 }
 
@@ -83,7 +84,8 @@ fn differ(rt: &HostRuntime, name: &str, outcome: Result<u32, Stop>) -> anyhow::R
     report(rt, name, outcome)?;
     match outcome {
         Err(Stop::Differs { .. }) => Ok(()),
-        _ => Err(anyhow!("no difference was found")),
+        Err(Stop::Faulty { .. }) => Err(anyhow!("the comparison stopped")),
+        Ok(_) => Err(anyhow!("no difference was found")),
     }
 }
 
