@@ -45,6 +45,11 @@ module _ {X Y : Type 0} (a : TlbMeaning X) (b : TlbMeaning Y) (s u : TwoLevelTlb
       within_or e p t own a.pairs f u.first loads ((two_level a b).pairs s) (λ k y l. inl (within k y l)) (inr pair) q x h
   filled_within f e p t own within pair loads below q x (inr h) = inr (below q x h)
 
+-- the first level had none, and what the second answered was loaded into it
+pub missed_first : {X Y : Type 0} (a : TlbMeaning X) (b : TlbMeaning Y) (e : Entry) (p : ℕ) (t : Translation) → PageEntry e p t → (s u : TwoLevelTlb X Y) (f : X) (q r : Option Translation)
+    → a.probed s.first p q f → b.probed s.second p r u.second → a.loaded f e p u.first → q ≡ None → r ≡ Some t → (two_level a b).probed s p (Some t) u
+missed_first a b e p t own s u f q r first second loaded i j = inr (f, record { first = rw i at first; second = rw j at second; filled = (e, own, loaded) })
+
 same_both : {A B C D : Type 0} → Same A C → Same B D → Same (A × B) (C × D)
 same_both (f, g) (h, i) = ((λ (a, b). (f a, h b)), λ (c, d). (g c, i d))
 

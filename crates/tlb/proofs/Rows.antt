@@ -100,6 +100,11 @@ lost_pages {S} held dropped kept laws xs ys p each = (each.0, λ k d l q. slot (
     slot None u e q = ap (λ x. in_slot held x q) e ∙ sym (none_either (eqb q p))
     slot (Some s) u d q = laws.pages s p u d q
 
+-- and such a row is still as its kind of slot keeps it
+pub lost_kept : {S : Type 0} (held : Holding S) (dropped : Dropping S) (kept : Keeping S) → SlotLaws held dropped kept
+    → (p : ℕ) (xs ys : List (Option S)) → kept xs ≡ true → Each (Becomes (λ s u. dropped s p u)) xs ys → kept ys ≡ true
+lost_kept held dropped kept laws p xs ys k each = laws.purged xs ys p k each
+
 -- where the slot may go for which room was made
 abbrev Goes : Option ℕ → ℕ → Type 0
 Goes place i = MatchOption place (Unit {0}) (λ k. k ≡ i)

@@ -11,4 +11,4 @@ returns g c =
     let p = c.args.page.number in
     let r = c.find_map.result in
     let first = found held xs p r (first_mapped (λ s. held s p) xs c.iter.result r (λ s. s.rest.now) c.iter.ensures.runs c.iter.ensures.rest c.find_map.ensures.runs (λ x a q k. search (rules, tests))) in
-    record { first = first; answer = answers held xs p r first }
+    record { first = search (rules, first); answer = answers held xs p _ (search (rules, first)) }

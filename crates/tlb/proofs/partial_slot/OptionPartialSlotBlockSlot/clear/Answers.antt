@@ -11,4 +11,4 @@ returns-in-Some c =
 pub returns-in-None-without_all : goal.returns-in-None-without_all
 returns-in-None-without_all c =
     let slot = c.in-Some-Subblock in
-    rw (slot.is, slot.field-0-is) (emptied c.args.offsets.bits slot.field-0-0 slot.word c.in-None-without_all.ensures)
+    rw (slot.is, slot.field-0-is) (search (rules, emptied c.args.offsets.bits slot.field-0-0 slot.word c.in-None-without_all.ensures))
