@@ -10,5 +10,5 @@ pub struct BlockIndex {
 #[derive(Drop)]
 pub struct Groups<'a> {
     pub(crate) bucket: &'a BitSet<4>,
-    pub(crate) from: usize,
+    pub(crate) from: u32,
 }

@@ -68,8 +68,8 @@ impl<'a> Iterator for Groups<'a> {
 
     #[tactic(auto, using(crate::proofs::Members::passing_none, crate::proofs::Members::next_left))]
     fn next(&mut self) -> Option<u8> {
-        let group = lowest_from(self.bucket, self.from)?;
-        self.from = usize::from(group) + 1;
+        let group = lowest_from(self.bucket, self.from as usize)?;
+        self.from = u32::from(group) + 1;
         Some(group)
     }
 }
